@@ -1,6 +1,6 @@
 // Frames that were read at once.
 
-import { BIG, LITTLE } from "./config.mjs";
+import { BIG, LITTLE, viewOf } from "./config.mjs";
 import { FLAGS, isPresent } from "./fields.mjs";
 import { FRAME_BYTES } from "./machine.mjs";
 
@@ -91,7 +91,7 @@ export class Batch {
 /** Copies the numbers in bytes to `numbers`, from the place `to` on. */
 export function putNumbers(numbers, to, bytes, order) {
     if (order === BIG) {
-        const view = new DataView(bytes.buffer, bytes.byteOffset, bytes.length);
+        const view = viewOf(bytes);
         for (let i = 0; i < bytes.length >> 3; i++) {
             numbers[to + i] = view.getBigUint64(8 * i);
         }

@@ -26,6 +26,9 @@ export function bytesOf(data) {
     throw new TypeError("the bytes must be an ArrayBuffer or a view of one");
 }
 
+/** Returns what reads numbers from bytes. */
+export const viewOf = (bytes) => new DataView(bytes.buffer, bytes.byteOffset, bytes.length);
+
 export function isFile(bytes) {
     return MAGICS.includes(String.fromCharCode(...bytes.subarray(0, 8)));
 }

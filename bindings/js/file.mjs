@@ -2,7 +2,7 @@
 // reads, and then a piece of its frames, since the entry and the numbers of a frame depend on its own bytes alone.
 
 import { numbersOf } from "./batch.mjs";
-import { BIG, bytesOf } from "./config.mjs";
+import { BIG, bytesOf, viewOf } from "./config.mjs";
 import { ENTRY_WORDS, EVENT, NUMBER, OWNER, putOffset } from "./entries.mjs";
 import { FILE_REFUSALS } from "./fields.mjs";
 import { FileFrames } from "./file_frames.mjs";
@@ -28,8 +28,6 @@ export class RefusedFile extends RangeError {
 
     get name() { return "RefusedFile"; }
 }
-
-const viewOf = (bytes) => new DataView(bytes.buffer, bytes.byteOffset, bytes.length);
 
 /** The front of a file, up to the last byte that opening reads: of its head, its attributes, and the ids of each event,
  * whose place is at the end of its entry. A part that ends beyond the file is not read, as the library refuses it. */

@@ -18,7 +18,7 @@
 // The library is a WebAssembly module, which is in module.mjs. Its memory has room for a piece of the input and a
 // batch of frames, and does not grow with the input, which is read where it is and must not change meanwhile.
 
-import { BIG, bytesOf, Config, isFile, LITTLE, STRUCT_VERSION } from "./config.mjs";
+import { BIG, bytesOf, Config, isFile, LITTLE, STRUCT_VERSION, viewOf } from "./config.mjs";
 import { OWNERS } from "./entries.mjs";
 import { FILE_KINDS, FLAGS, KINDS, TYPES } from "./fields.mjs";
 import { FileEvent, Recording, RefusedFile } from "./file.mjs";
@@ -58,8 +58,7 @@ class Library {
     readAttribute(data, order = LITTLE) {
         const machine = this.#machine;
         const bytes = bytesOf(data);
-        const size = bytes.length < 8 ? 0
-            : new DataView(bytes.buffer, bytes.byteOffset, bytes.length).getUint32(4, order !== BIG);
+        const size = bytes.length < 8 ? 0 : viewOf(bytes).getUint32(4, order !== BIG);
         const front = bytes.subarray(0, Math.max(size, 4096));
         machine.putPiece(front);
         const kind = machine.calls.ped_read_attr(BigInt(machine.piece), BigInt(front.length), order,

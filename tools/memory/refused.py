@@ -97,7 +97,7 @@ def copies(found):
 def copy_tests(source):
     """Makes of each test of the crate one for each request that is refused, and returns how many tests there are."""
     count = 0
-    for file in source.glob("*.rt"):
+    for file in source.rglob("*.rt"):
         text = file.read_text(encoding="utf-8")
         made, found = TEST.subn(copies, text)
         if found != text.count("#[test]"):
@@ -114,7 +114,7 @@ def told(output):
     """The lines of the tests of each request."""
     found, request = {}, None
     for line in output.split("\n"):
-        test = re.match(r"test \w+::\w+_(\d+) ", line)
+        test = re.match(r"test [\w:]+_(\d+) ", line)
         request = int(test[1]) if test else request
         found.setdefault(request, []).append(line.strip())
     return found

@@ -131,16 +131,15 @@ class Room:
         return result
 
     def join_tests(self, name, others):
-        """Adds the modules of other crates of tests to one, each under its crate's name and its own."""
+        """Adds the tests of other crates to those of one, each crate's in a module of its name."""
         root = self.source(name) / "lib.rt"
         for other in others:
-            for file in self.source(other).glob("*.rt"):
-                text = re.sub(r"\bcrate::", f"crate::{other}_", file.read_text(encoding="utf-8"))
-                if file.name != "lib.rt":
-                    (self.source(name) / f"{other}_{file.name}").write_text(text, encoding="utf-8")
-            modules = re.findall(r"^(?:#\[cfg\(test\)\]\n)?mod \w+;\n", (self.source(other) / "lib.rt").read_text(), re.MULTILINE)
-            modules = "".join(modules).replace("mod ", f"mod {other}_")
-            root.write_text(root.read_text(encoding="utf-8") + modules, encoding="utf-8")
+            (self.source(name) / other).mkdir()
+            for file in [self.source(other) / "tests.rt", *self.source(other).glob("tests/*.rt")]:
+                place = self.source(name) / file.relative_to(self.source(other)).as_posix().replace("tests", other, 1)
+                place.write_text(re.sub(r"\bcrate::tests::", f"crate::{other}::", file.read_text(encoding="utf-8")), encoding="utf-8")
+            with open(root, "a", encoding="utf-8") as it:
+                it.write(f"#[cfg(test)]\nmod {other};\n")
             self.uses[name] = list(dict.fromkeys(self.uses[name] + self.uses[other]))
         self.list()
 
@@ -149,7 +148,7 @@ class Room:
         both."""
         shutil.copytree(self.source(name), self.source(part))
         for source, is_moved in ((self.source(name), True), (self.source(part), False)):
-            for file in source.glob("*.rt"):
+            for file in source.rglob("*.rt"):
                 if (file.stem in modules) == is_moved:
                     file.write_text(TEST.sub("", file.read_text(encoding="utf-8")), encoding="utf-8")
         self.uses[part] = self.uses[name]

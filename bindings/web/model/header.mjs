@@ -3,6 +3,7 @@
 // The library has opened the file before, so its head is whole; the table of features after the data may still lie, and
 // what it states outside the file is left out.
 
+import { viewOf } from "../../js/config.mjs";
 import { kernelName } from "./event_names.mjs";
 import { textOf } from "./text.mjs";
 
@@ -21,7 +22,7 @@ class Words {
     constructor(bytes, isLittle) {
         this.bytes = bytes;
         this.isLittle = isLittle;
-        this.view = new DataView(bytes.buffer, bytes.byteOffset, bytes.byteLength);
+        this.view = viewOf(bytes);
         this.at = 0;
     }
 
@@ -60,7 +61,7 @@ function beforeZero(bytes) {
 
 /** The bytes of each feature, by its number. */
 function featuresOf(bytes, isLittle) {
-    const view = new DataView(bytes.buffer, bytes.byteOffset, bytes.byteLength);
+    const view = viewOf(bytes);
     const u64 = (at) => Number(view.getBigUint64(at, isLittle));
     const features = new Map();
     if (u64(48) === 0) {
@@ -155,5 +156,5 @@ export class EventNames {
 
 /** The period of events whose samples have none: of the attribute's own, `sample_period`. */
 export function ownPeriod(bytes, at, isLittle) {
-    return new DataView(bytes.buffer, bytes.byteOffset, bytes.byteLength).getBigUint64(at + 16, isLittle);
+    return viewOf(bytes).getBigUint64(at + 16, isLittle);
 }

@@ -1,6 +1,6 @@
 // Opens the bytes of a recording by the library: a file of `perf record`, or a stream with its attribute in front.
 
-import { isFile } from "../../js/config.mjs";
+import { isFile, viewOf } from "../../js/config.mjs";
 import { EventNames, headerOf, ownPeriod } from "./header.mjs";
 
 /** The place in the head of a file of the size of an attribute's entry, and of where the attributes are. */
@@ -8,7 +8,7 @@ const ENTRY_SIZE = 16;
 const ATTRIBUTES = 24;
 
 function number(bytes, at, isLittle) {
-    return Number(new DataView(bytes.buffer, bytes.byteOffset, bytes.byteLength).getBigUint64(at, isLittle));
+    return Number(viewOf(bytes).getBigUint64(at, isLittle));
 }
 
 function openFile(library, ped, bytes) {
@@ -44,7 +44,7 @@ function attributeOf(library, ped, bytes, orders) {
 function openStream(library, ped, bytes, orders) {
     const { config, length, order } = attributeOf(library, ped, bytes, orders);
     const isLittle = order === library.LITTLE;
-    const view = new DataView(bytes.buffer, bytes.byteOffset, bytes.byteLength);
+    const view = viewOf(bytes);
     const [type, event] = [view.getUint32(0, isLittle), view.getBigUint64(8, isLittle)];
     return {
         bytes, header: {}, kind: "stream", order: isLittle ? "little" : "big", isClosed: true,

@@ -14,7 +14,7 @@
 //! id, a count of lost events, READ, NAMESPACES or a record of `rare`.
 
 use bitflags::Flags;
-use perf_event_data::parse::{ErrorKind, ParseError, ParseResult};
+use perf_event_data::parse::{ParseError, ParseResult};
 use perf_event_data::sys::perf_event_header;
 use perf_event_data::{
     BpfEvent, BranchEntry, Comm, CowSlice, Exit, KSymbol, Mmap, Mmap2, Namespaces, Read, ReadGroup,
@@ -85,6 +85,13 @@ impl Digest {
         self.number(number.unwrap_or(ABSENT));
     }
 
+    // Numbers that may be absent.
+    fn each(&mut self, numbers: &[Option<u64>]) {
+        for number in numbers {
+            self.maybe(*number);
+        }
+    }
+
     fn maybe_short(&mut self, number: Option<u32>) {
         self.maybe(number.map(u64::from));
     }
@@ -153,14 +160,7 @@ impl Digest {
 
     /// A call was refused.
     pub fn error(&mut self, error: &ParseError) {
-        self.number(match error.kind() {
-            ErrorKind::Eof => 1,
-            ErrorKind::InvalidRecord => 2,
-            ErrorKind::UnsupportedConfig => 3,
-            ErrorKind::UnsupportedData => 4,
-            ErrorKind::External => 5,
-            ErrorKind::OutOfMemory => 6,
-        });
+        self.number((error.kind() as u64).wrapping_add(1));
         match error.message() {
             Some(message) => self.bytes(message.as_bytes()),
             None => self.number(ABSENT),
@@ -174,39 +174,21 @@ impl Digest {
         let id = metadata.sample_id();
         self.maybe_short(id.pid());
         self.maybe_short(id.tid());
-        self.maybe(id.time());
-        self.maybe(id.id());
-        self.maybe(id.stream_id());
+        self.each(&[id.time(), id.id(), id.stream_id()]);
         self.maybe_short(id.cpu());
     }
 
     /// A record was read: which variant it is, and its fields.
     pub fn record(&mut self, record: &Record) {
+        self.number(variant_of(record));
         match record {
-            Record::Sample(sample) => {
-                self.number(1);
-                self.sample(sample);
-            }
-            Record::Mmap2(mapped) => {
-                self.number(2);
-                self.mmap2(mapped);
-            }
+            Record::Sample(sample) => self.sample(sample),
+            Record::Mmap2(mapped) => self.mmap2(mapped),
+            Record::Comm(comm) => self.comm(comm),
+            Record::Exit(task) | Record::Fork(task) => self.task(task),
             Record::Unknown { ty, bytes } => {
-                self.number(3);
                 self.short(*ty);
                 self.cow(bytes);
-            }
-            Record::Comm(comm) => {
-                self.number(4);
-                self.comm(comm);
-            }
-            Record::Exit(task) => {
-                self.number(5);
-                self.task(task);
-            }
-            Record::Fork(task) => {
-                self.number(6);
-                self.task(task);
             }
             other => self.side(other),
         }
@@ -215,28 +197,12 @@ impl Digest {
     // The records that are neither samples, mappings nor those of a task.
     fn side(&mut self, record: &Record) {
         match record {
-            Record::Lost(lost) => self.numbers(&[7, lost.id, lost.lost]),
-            Record::LostSamples(lost) => self.numbers(&[8, lost.lost]),
-            Record::Throttle(throttle) => {
-                self.number(9);
-                self.throttle(throttle);
-            }
-            Record::Unthrottle(throttle) => {
-                self.number(10);
-                self.throttle(throttle);
-            }
-            Record::KSymbol(symbol) => {
-                self.number(11);
-                self.ksymbol(symbol);
-            }
-            Record::Namespaces(spaces) => {
-                self.number(12);
-                self.namespaces(spaces);
-            }
-            Record::Read(read) => {
-                self.number(13);
-                self.read(read);
-            }
+            Record::Lost(lost) => self.numbers(&[lost.id, lost.lost]),
+            Record::LostSamples(lost) => self.number(lost.lost),
+            Record::Throttle(event) | Record::Unthrottle(event) => self.throttle(event),
+            Record::KSymbol(symbol) => self.ksymbol(symbol),
+            Record::Namespaces(spaces) => self.namespaces(spaces),
+            Record::Read(read) => self.read(read),
             other => self.rare(other),
         }
     }
@@ -244,23 +210,23 @@ impl Digest {
     // The records that the workloads do not have.
     fn rare(&mut self, record: &Record) {
         match record {
-            Record::Aux(aux) => {
-                self.numbers(&[14, aux.aux_offset, aux.aux_size, aux.flags.bits()]);
-            }
+            Record::Aux(aux) => self.numbers(&[aux.aux_offset, aux.aux_size, aux.flags.bits()]),
             Record::ITraceStart(start) => {
-                self.numbers(&[15, u64::from(start.pid), u64::from(start.tid)]);
+                self.numbers(&[u64::from(start.pid), u64::from(start.tid)]);
             }
-            Record::SwitchCpuWide(switch) => self.switch(switch),
+            Record::SwitchCpuWide(switch) => {
+                self.numbers(&[u64::from(switch.pid()), u64::from(switch.tid())]);
+            }
             Record::BpfEvent(event) => self.bpf_event(event),
             Record::CGroup(group) => {
-                self.numbers(&[19, group.id]);
+                self.number(group.id);
                 self.cow(&group.path);
             }
             Record::TextPoke(poke) => self.text_poke(poke),
-            Record::AuxOutputHwId(id) => self.numbers(&[21, id.hw_id]),
+            Record::AuxOutputHwId(id) => self.number(id.hw_id),
             Record::Mmap(mapped) => self.mmap(mapped),
             // Only a switch is left, which has no field.
-            _ => self.number(23),
+            _ => {}
         }
     }
 
@@ -271,23 +237,14 @@ impl Digest {
         self.cow(&comm.comm);
     }
 
-    fn switch(&mut self, switch: &SwitchCpuWide) {
-        self.number(match switch {
-            SwitchCpuWide::In { .. } => 16,
-            SwitchCpuWide::Out { .. } => 17,
-        });
-        self.short(switch.pid());
-        self.short(switch.tid());
-    }
-
     fn bpf_event(&mut self, event: &BpfEvent) {
-        self.numbers(&[18, u64::from(event.ty.get()), u64::from(event.flags)]);
+        self.numbers(&[u64::from(event.ty.get()), u64::from(event.flags)]);
         self.short(event.id);
         self.bytes(&event.tag);
     }
 
     fn text_poke(&mut self, poke: &TextPoke) {
-        self.numbers(&[20, poke.addr]);
+        self.number(poke.addr);
         self.cow(&poke.old_bytes);
         self.cow(&poke.new_bytes);
     }
@@ -323,7 +280,6 @@ impl Digest {
     }
 
     fn mmap(&mut self, mapped: &Mmap) {
-        self.number(22);
         self.short(mapped.pid);
         self.short(mapped.tid);
         self.numbers(&[mapped.addr, mapped.len, mapped.pgoff]);
@@ -349,10 +305,8 @@ impl Digest {
         self.short(read.pid);
         self.short(read.tid);
         self.number(read.values.value());
-        self.maybe(read.values.time_enabled());
-        self.maybe(read.values.time_running());
-        self.maybe(read.values.id());
-        self.maybe(read.values.lost());
+        let (enabled, running) = (read.values.time_enabled(), read.values.time_running());
+        self.each(&[enabled, running, read.values.id(), read.values.lost()]);
     }
 
     /// A sample was read.
@@ -360,10 +314,8 @@ impl Digest {
         self.maybe(sample.ip());
         self.maybe_short(sample.pid());
         self.maybe_short(sample.tid());
-        self.maybe(sample.time());
-        self.maybe(sample.addr());
-        self.maybe(sample.id());
-        self.maybe(sample.stream_id());
+        let (addr, id) = (sample.addr(), sample.id());
+        self.each(&[sample.time(), addr, id, sample.stream_id()]);
         self.maybe_short(sample.cpu());
         self.maybe(sample.period());
         self.costs(sample);
@@ -374,11 +326,9 @@ impl Digest {
         self.maybe(sample.weight());
         self.maybe(sample.data_src().map(|word| word.bits()));
         self.maybe(sample.transaction().map(|word| word.bits()));
-        self.maybe(sample.phys_addr());
-        self.maybe(sample.cgroup());
-        self.maybe(sample.data_page_size());
-        self.maybe(sample.code_page_size());
-        self.maybe(sample.lbr_hw_index());
+        self.each(&[sample.phys_addr(), sample.cgroup()]);
+        let (of_data, of_code) = (sample.data_page_size(), sample.code_page_size());
+        self.each(&[of_data, of_code, sample.lbr_hw_index()]);
     }
 
     fn lists(&mut self, sample: &Sample) {
@@ -431,6 +381,35 @@ impl Digest {
             self.maybe(entry.lost());
             self.mix();
         }
+    }
+}
+
+// The number of a record's variant.
+fn variant_of(record: &Record) -> u64 {
+    match record {
+        Record::Sample(_) => 1,
+        Record::Mmap2(_) => 2,
+        Record::Unknown { .. } => 3,
+        Record::Comm(_) => 4,
+        Record::Exit(_) => 5,
+        Record::Fork(_) => 6,
+        Record::Lost(_) => 7,
+        Record::LostSamples(_) => 8,
+        Record::Throttle(_) => 9,
+        Record::Unthrottle(_) => 10,
+        Record::KSymbol(_) => 11,
+        Record::Namespaces(_) => 12,
+        Record::Read(_) => 13,
+        Record::Aux(_) => 14,
+        Record::ITraceStart(_) => 15,
+        Record::SwitchCpuWide(SwitchCpuWide::In { .. }) => 16,
+        Record::SwitchCpuWide(SwitchCpuWide::Out { .. }) => 17,
+        Record::BpfEvent(_) => 18,
+        Record::CGroup(_) => 19,
+        Record::TextPoke(_) => 20,
+        Record::AuxOutputHwId(_) => 21,
+        Record::Mmap(_) => 22,
+        Record::Switch => 23,
     }
 }
 

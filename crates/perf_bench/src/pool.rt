@@ -1,5 +1,7 @@
 //! Lists that many frames share, as frames of a recording share call chains and file names.
 
+ghost use Rattle.std.specs.Prelude.{◌<◌};
+
 use crate::random::Random;
 use crate::stream::ByteOrder;
 use std::alloc::{AllocError, Global};
@@ -51,9 +53,14 @@ impl Pool {
     ) -> Result<Pool, AllocError> {
         let mut items = Vec::new(alloc);
         for _ in 0..EACH {
-            let mut bytes = Vec::new(alloc);
-            push_item(&mut bytes, kind, order, random)?;
-            items.push(bytes)?;
+            let mut item = Item {
+                bytes: Vec::new(alloc),
+                order,
+                random: *random,
+            };
+            item.push(kind)?;
+            *random = item.random;
+            items.push(item.bytes)?;
         }
         Ok(Pool { items })
     }
@@ -68,134 +75,114 @@ impl Pool {
     }
 }
 
-fn push_item(
-    bytes: &mut Vec<u8>,
-    kind: Kind,
+// An item, the byte order of its numbers, and where they come from.
+#[derive(Drop)]
+struct Item {
+    bytes: Vec<u8>,
     order: ByteOrder,
-    random: &mut Random,
-) -> Result<(), AllocError> {
-    match kind {
-        Kind::Chains => push_chain(bytes, order, random),
-        Kind::Files => push_name(
-            bytes,
-            b"/usr/lib/x86_64-linux-gnu/lib",
-            random.within(3, 60),
-            random,
-        ),
-        Kind::Tasks => push_name(bytes, b"k", random.within(2, 14), random),
-        Kind::Branches => push_branches(bytes, order, random),
-        Kind::Raw => push_raw(bytes, order, random),
-        Kind::Stacks => push_stack(bytes, order, random),
-        Kind::Groups => push_group(bytes, order, random),
-        Kind::Unknown => push_numbers(bytes, order, random, 7_600, 64),
-    }
+    random: Random,
 }
 
-fn push_word(bytes: &mut Vec<u8>, order: ByteOrder, word: u64) -> Result<(), AllocError> {
-    bytes.extend_from_slice(&order.bytes(word))
-}
-
-// Appends `count` random numbers of `bits` bits.
-fn push_numbers(
-    bytes: &mut Vec<u8>,
-    order: ByteOrder,
-    random: &mut Random,
-    count: u64,
-    bits: u32,
-) -> Result<(), AllocError> {
-    for _ in 0..count {
-        let number = random.number().checked_shr(64 - bits.min(64)).unwrap_or(0);
-        push_word(bytes, order, number)?;
-    }
-    Ok(())
-}
-
-fn push_chain(
-    bytes: &mut Vec<u8>,
-    order: ByteOrder,
-    random: &mut Random,
-) -> Result<(), AllocError> {
-    let kernel = random.within(3, 20);
-    let user = random.within(5, 38);
-    push_word(bytes, order, kernel.wrapping_add(user).wrapping_add(2))?;
-    push_word(bytes, order, CONTEXT_KERNEL)?;
-    for _ in 0..kernel {
-        push_word(bytes, order, 0xFFFF_FFFF_8000_0000 | random.bits(24))?;
-    }
-    push_word(bytes, order, CONTEXT_USER)?;
-    for _ in 0..user {
-        push_word(bytes, order, 0x7F00_0000_0000 | random.bits(32))?;
-    }
-    Ok(())
-}
-
-// A name, padded with zeros.
-fn push_name(
-    bytes: &mut Vec<u8>,
-    front: &[u8],
-    letters: u64,
-    random: &mut Random,
-) -> Result<(), AllocError> {
-    bytes.extend_from_slice(front)?;
-    for _ in 0..letters {
-        match LETTERS.get(random.bits(4) as usize) {
-            Some(letter) => bytes.push(*letter)?,
-            None => {}
+impl Item {
+    fn push(&mut self, kind: Kind) -> Result<(), AllocError> {
+        match kind {
+            Kind::Chains => self.push_chain(),
+            Kind::Files => self.push_name(b"/usr/lib/x86_64-linux-gnu/lib", 3, 60),
+            Kind::Tasks => self.push_name(b"k", 2, 14),
+            Kind::Branches => self.push_branches(),
+            Kind::Raw => self.push_raw(),
+            Kind::Stacks => self.push_stack(),
+            Kind::Groups => self.push_group(),
+            Kind::Unknown => self.push_numbers(7_600, 64),
         }
     }
-    for _ in 0..8 - bytes.len() % 8 {
-        bytes.push(0)?;
+
+    fn push_word(&mut self, word: u64) -> Result<(), AllocError> {
+        self.bytes.extend_from_slice(&self.order.bytes(word))
     }
-    Ok(())
-}
 
-fn push_branches(
-    bytes: &mut Vec<u8>,
-    order: ByteOrder,
-    random: &mut Random,
-) -> Result<(), AllocError> {
-    push_word(bytes, order, 32)?;
-    for _ in 0..32 {
-        push_word(bytes, order, 0x5500_0000_0000 | random.bits(32))?;
-        push_word(bytes, order, 0x5500_0000_0000 | random.bits(32))?;
-        push_word(bytes, order, random.bits(24))?;
+    // Appends `count` random numbers of `bits` bits.
+    fn push_numbers(&mut self, count: u64, bits: u32) -> Result<(), AllocError> {
+        for _ in 0..count {
+            let number = self.random.number();
+            self.push_word(number.checked_shr(64 - bits.min(64)).unwrap_or(0))?;
+        }
+        Ok(())
     }
-    Ok(())
-}
 
-// A length of four bytes and as many bytes, which together are a multiple of eight.
-fn push_raw(bytes: &mut Vec<u8>, order: ByteOrder, random: &mut Random) -> Result<(), AllocError> {
-    let words = random.within(3, 12);
-    let len = u32::try_from(words.wrapping_mul(8).wrapping_add(4)).unwrap_or(0);
-    match order {
-        ByteOrder::Little => bytes.extend_from_slice(&len.to_le_bytes())?,
-        ByteOrder::Big => bytes.extend_from_slice(&len.to_be_bytes())?,
+    fn push_chain(&mut self) -> Result<(), AllocError> {
+        let kernel = self.random.within(3, 20);
+        let user = self.random.within(5, 38);
+        self.push_word(kernel.wrapping_add(user).wrapping_add(2))?;
+        self.push_word(CONTEXT_KERNEL)?;
+        self.push_addresses(kernel, 0xFFFF_FFFF_8000_0000, 24)?;
+        self.push_word(CONTEXT_USER)?;
+        self.push_addresses(user, 0x7F00_0000_0000, 32)
     }
-    bytes.extend_from_slice(&random.short(32).to_le_bytes())?;
-    push_numbers(bytes, order, random, words, 40)
-}
 
-// The ABI of registers, twenty of them, the size of the stack, its bytes, and how many are used.
-fn push_stack(
-    bytes: &mut Vec<u8>,
-    order: ByteOrder,
-    random: &mut Random,
-) -> Result<(), AllocError> {
-    push_word(bytes, order, 2)?;
-    push_numbers(bytes, order, random, 20, 47)?;
-    push_word(bytes, order, 8_192)?;
-    push_numbers(bytes, order, random, 1_024, 47)?;
-    push_word(bytes, order, random.within(1_000, 8_192))
-}
+    // Appends `count` addresses, of which the last `bits` bits are random.
+    fn push_addresses(&mut self, count: u64, first: u64, bits: u32) -> Result<(), AllocError>
+        requires { bits < 64 }
+    {
+        for _ in 0..count {
+            let place = self.random.bits(bits);
+            self.push_word(first | place)?;
+        }
+        Ok(())
+    }
 
-// The number of counters, the times, and each counter with its id.
-fn push_group(
-    bytes: &mut Vec<u8>,
-    order: ByteOrder,
-    random: &mut Random,
-) -> Result<(), AllocError> {
-    let count = random.within(2, 20);
-    push_word(bytes, order, count)?;
-    push_numbers(bytes, order, random, 2, 40)?;
-    push_numbers(bytes, order, random, count.wrapping_mul(2), 36)
+    // A name with that many letters, padded with zeros.
+    fn push_name(&mut self, front: &[u8], least: u64, most: u64) -> Result<(), AllocError> {
+        self.bytes.extend_from_slice(front)?;
+        for _ in 0..self.random.within(least, most) {
+            match LETTERS.get(self.random.bits(4) as usize) {
+                Some(letter) => self.bytes.push(*letter)?,
+                None => {}
+            }
+        }
+        for _ in 0..8 - self.bytes.len() % 8 {
+            self.bytes.push(0)?;
+        }
+        Ok(())
+    }
+
+    fn push_branches(&mut self) -> Result<(), AllocError> {
+        self.push_word(32)?;
+        for _ in 0..32 {
+            self.push_addresses(2, 0x5500_0000_0000, 32)?;
+            self.push_addresses(1, 0, 24)?;
+        }
+        Ok(())
+    }
+
+    // A length of four bytes and as many bytes, which together are a multiple of eight.
+    fn push_raw(&mut self) -> Result<(), AllocError> {
+        let words = self.random.within(3, 12);
+        let len = u32::try_from(words.wrapping_mul(8).wrapping_add(4)).unwrap_or(0);
+        match self.order {
+            ByteOrder::Little => self.bytes.extend_from_slice(&len.to_le_bytes())?,
+            ByteOrder::Big => self.bytes.extend_from_slice(&len.to_be_bytes())?,
+        }
+        let first = self.random.short(32);
+        self.bytes.extend_from_slice(&first.to_le_bytes())?;
+        self.push_numbers(words, 40)
+    }
+
+    // The ABI of registers, twenty of them, the size of the stack, its bytes, and how many are used.
+    fn push_stack(&mut self) -> Result<(), AllocError> {
+        self.push_word(2)?;
+        self.push_numbers(20, 47)?;
+        self.push_word(8_192)?;
+        self.push_numbers(1_024, 47)?;
+        let used = self.random.within(1_000, 8_192);
+        self.push_word(used)
+    }
+
+    // The number of counters, the times, and each counter with its id.
+    fn push_group(&mut self) -> Result<(), AllocError> {
+        let count = self.random.within(2, 20);
+        self.push_word(count)?;
+        self.push_numbers(2, 40)?;
+        self.push_numbers(count.wrapping_mul(2), 36)
+    }
 }

@@ -6,7 +6,7 @@ use crate::ring::{Taken, read_ring};
 use crate::stream::{ByteOrder, Stream};
 use anyhow::Result;
 use perf_event_data::endian::{Dynamic, Endian, Little, Native};
-use perf_event_data::parse::{ParseBuf, ParseConfig, Parser};
+use perf_event_data::parse::{Parse, ParseBuf, ParseConfig, Parser};
 use perf_event_data::sys::perf_event_attr;
 use perf_event_data::{PieceBuf, RunEnd, read_records};
 use perf_lines::run::run;
@@ -244,7 +244,7 @@ fn read_all<'p, B: ParseBuf<'p> + Drop, E: Endian>(
 ) -> Result<()> {
     let config = ParseConfig::<Native>::default().with_endian(order);
     let mut parser = Parser::new(alloc, buffer, config);
-    let attr = parser.parse::<perf_event_attr>()?;
+    let attr = perf_event_attr::parse(&mut parser)?;
     let order = parser.endian().duplicate()?;
     let config = ParseConfig::<Native>::from(attr).with_endian(order);
     let mut parser = parser.reconfigure(config);

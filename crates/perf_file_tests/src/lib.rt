@@ -3,10 +3,4 @@
 #![tactic(auto)]
 
 #[cfg(test)]
-mod files;
-#[cfg(test)]
-mod names;
-#[cfg(test)]
-mod opened;
-#[cfg(test)]
-mod refused;
+mod tests;

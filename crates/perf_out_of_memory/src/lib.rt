@@ -4,12 +4,4 @@
 #![tactic(auto)]
 
 #[cfg(test)]
-mod page;
-#[cfg(test)]
-mod reports;
-#[cfg(test)]
-mod requests;
-#[cfg(test)]
-mod runs;
-#[cfg(test)]
-mod slices;
+mod tests;

@@ -4,24 +4,4 @@
 #![tactic(auto)]
 
 #[cfg(test)]
-mod checks;
-#[cfg(test)]
-mod counts;
-#[cfg(test)]
-mod failing;
-#[cfg(test)]
-mod flat_calls;
-#[cfg(test)]
-mod flat_frames;
-#[cfg(test)]
-mod lines;
-#[cfg(test)]
-mod printing;
-#[cfg(test)]
-mod reader_lengths;
-#[cfg(test)]
-mod rooms;
-#[cfg(test)]
-mod runs;
-#[cfg(test)]
-mod texts;
+mod tests;

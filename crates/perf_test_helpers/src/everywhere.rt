@@ -49,7 +49,7 @@ fn text_over<'p, B: ParseBuf<'p> + Drop, E: Endian + Copy>(
     match asked.request {
         Request::Calls(parts) => text_of_answers(alloc, parser, parts),
         Request::Runs(way, limits) => text_of_parser(alloc, parser, way, limits),
-        Request::AfterAttribute(limits) => text_after(alloc, parser, asked.endian, limits),
+        Request::AfterAttribute(limits) => text_after(alloc, parser, limits),
     }
 }
 

@@ -167,29 +167,26 @@ fn write_runs<'p, B: ParseBuf<'p>, E: Endian>(
 }
 
 /// What comes after the attribute at the start of a parser's bytes; or its error.
-pub fn text_after<'p, B: ParseBuf<'p> + Drop, E: Endian>(
+pub fn text_after<'p, B: ParseBuf<'p> + Drop, E: Endian + Copy>(
     alloc: Global,
-    parser: Parser<B, E>,
-    endian: E,
+    mut parser: Parser<B, E>,
     limits: &[usize],
 ) -> Result<String, AllocError> {
-    let mut parser = parser;
     match next_attribute(&mut parser) {
-        Ok(attr) => text_under_own(alloc, parser, endian, attr, limits),
+        Ok(attr) => text_under_own(alloc, parser, attr, limits),
         Err(error) => format!(in alloc; "{error}"),
     }
 }
 
 // An attribute's size, its configuration and the runs after it.
-fn text_under_own<'p, B: ParseBuf<'p> + Drop, E: Endian>(
+fn text_under_own<'p, B: ParseBuf<'p> + Drop, E: Endian + Copy>(
     alloc: Global,
     parser: Parser<B, E>,
-    endian: E,
     attr: perf_event_attr,
     limits: &[usize],
 ) -> Result<String, AllocError> {
     let mut text = format!(in alloc; "{} ", attr.size)?;
-    let config = ParseConfig::<Native>::from(attr).with_endian(endian);
+    let config = ParseConfig::<Native>::from(attr).with_endian(*parser.endian());
     write_config(&mut text, &config)?;
     let mut parser = parser.reconfigure(config);
     write_runs(&mut text, &mut parser, Way::Records, limits)?;

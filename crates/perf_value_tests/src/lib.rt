@@ -3,16 +3,4 @@
 #![tactic(auto)]
 
 #[cfg(test)]
-mod checks;
-#[cfg(test)]
-mod copies;
-#[cfg(test)]
-mod groups;
-#[cfg(test)]
-mod records;
-#[cfg(test)]
-mod samples;
-#[cfg(test)]
-mod sizes;
-#[cfg(test)]
-mod words;
+mod tests;

@@ -1,0 +1,6 @@
+//! The tests.
+
+mod files;
+mod names;
+mod opened;
+mod refused;

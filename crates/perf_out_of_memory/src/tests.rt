@@ -1,0 +1,7 @@
+//! The tests.
+
+mod page;
+mod reports;
+mod requests;
+mod runs;
+mod slices;

@@ -1,0 +1,123 @@
+//! Flat frames.
+
+use crate::tests::checks::check_debug;
+use bitflags::Flags;
+use perf_event_data::endian::Little;
+use perf_event_data::parse::ParseConfig;
+use perf_flat::frame::FlatFrame;
+use perf_flat::read::{read, read_into};
+use perf_words::SampleFlags;
+use std::alloc::Global;
+use std::mem::size_of;
+use std::process::Abort;
+
+// The thread 7 of the process 5 is called `sh`, as it executed that.
+const COMM: &[u8] = b"\x03\0\0\0\0\x20\x18\0\x05\0\0\0\x07\0\0\0sh\0\0\0\0\0\0";
+
+// The thread 7 of the process 5 has two namespaces, of the device 4 and the inodes 21 and 22.
+const NAMESPACES: &[u8] = b"\x10\0\0\0\0\0\x38\0\x05\0\0\0\x07\0\0\0\x02\0\0\0\0\0\0\0\
+\x04\0\0\0\0\0\0\0\x15\0\0\0\0\0\0\0\x04\0\0\0\0\0\0\0\x16\0\0\0\0\0\0\0";
+
+// In the thread 7 of the process 5, at the address 4096 and the time 9: a call chain of 4096 and 8192, and
+// the raw bytes `abcd`.
+const SAMPLE: &[u8] =
+    b"\x09\0\0\0\0\0\x40\0\0\x10\0\0\0\0\0\0\x05\0\0\0\x07\0\0\0\x09\0\0\0\0\0\0\0\
+\x02\0\0\0\0\0\0\0\0\x10\0\0\0\0\0\0\0\x20\0\0\0\0\0\0\x04\0\0\0abcd";
+
+// A header whose size is below its own.
+const SMALL: &[u8] = b"\x03\0\0\0\0\0\x07\0";
+
+// The header, what was read or why nothing was, the first three numbers and the first span.
+fn parts_of(frame: FlatFrame) -> ([u32; 3], [u32; 3], [u64; 3], [u32; 2]) {
+    let header = [frame.type_, u32::from(frame.misc), u32::from(frame.size)];
+    let answer = [
+        frame.read,
+        u32::from(frame.refusal),
+        u32::from(frame.reason),
+    ];
+    let [first, second, third, ..] = frame.numbers;
+    let [span, ..] = frame.spans;
+    (header, answer, [first, second, third], [span.at, span.len])
+}
+
+// The parts of the flat frame at the front of bytes.
+fn flat_parts(alloc: Global, bytes: &[u8]) -> Option<([u32; 3], [u32; 3], [u64; 3], [u32; 2])> {
+    let config = ParseConfig::<Little>::default();
+    Some(parts_of(read(alloc, &config, bytes)?))
+}
+
+#[test]
+fn a_flat_frame_has_numbers_and_spans(rt: HostRuntime) {
+    let frames = (
+        flat_parts(rt.alloc(), COMM),
+        flat_parts(rt.alloc(), NAMESPACES),
+        flat_parts(rt.alloc(), &COMM[..20]),
+        flat_parts(rt.alloc(), SMALL),
+        flat_parts(rt.alloc(), &SMALL[..7]),
+    );
+    check_debug(
+        &rt,
+        frames,
+        "(Some(([3, 8192, 24], [3, 0, 0], [5, 7, 0], [16, 2])), \
+         Some(([16, 0, 56], [16, 0, 0], [5, 7, 2], [24, 32])), \
+         Some(([3, 8192, 24], [0, 1, 0], [0, 0, 0], [0, 0])), \
+         Some(([3, 0, 7], [0, 2, 1], [0, 0, 0], [0, 0])), None)",
+    );
+}
+
+// Which fields a sample has, its task and its time, its address, and where its lists and raw bytes are.
+fn sample_parts(alloc: Global, bytes: &[u8]) -> Option<([u64; 5], [u32; 4])> {
+    let flags = [
+        SampleFlags::IP,
+        SampleFlags::TID,
+        SampleFlags::TIME,
+        SampleFlags::CALLCHAIN,
+        SampleFlags::RAW,
+    ];
+    let mut bits = 0;
+    for flag in flags {
+        bits |= flag.bits();
+    }
+    let config = ParseConfig::<Little>::default().with_sample_type(SampleFlags::from_bits_retain(
+        bits,
+    ));
+    let frame = read(alloc, &config, bytes)?;
+    let [ip, ..] = frame.numbers;
+    let [chain, _, _, _, _, raw, ..] = frame.spans;
+    let (pid, tid) = (u64::from(frame.pid), u64::from(frame.tid));
+    Some((
+        [frame.present, pid, tid, frame.time, ip],
+        [chain.at, chain.len, raw.at, raw.len],
+    ))
+}
+
+#[test]
+fn a_sample_has_its_lists_in_place(rt: HostRuntime) {
+    let parts = sample_parts(rt.alloc(), SAMPLE);
+    check_debug(&rt, parts, "Some(([1063, 5, 7, 9, 4096], [40, 16, 60, 4]))");
+}
+
+#[test]
+fn a_frame_is_written_in_place_or_left_as_it_was(rt: HostRuntime) {
+    let config = ParseConfig::<Little>::default();
+    let Some(mut frame) = read(rt.alloc(), &config, NAMESPACES) else {
+        panic!(rt; "no header");
+    };
+    let absent = read_into(&config, &COMM[..7], &mut frame);
+    let same = parts_of(frame);
+    let comm = read_into(&config, COMM, &mut frame);
+    let record = parts_of(frame);
+    let small = read_into(&config, SMALL, &mut frame);
+    check_debug(
+        &rt,
+        ((absent, same), (comm, record), (small, parts_of(frame))),
+        "((false, ([16, 0, 56], [16, 0, 0], [5, 7, 2], [24, 32])), \
+         (true, ([3, 8192, 24], [3, 0, 0], [5, 7, 0], [16, 2])), \
+         (true, ([3, 0, 7], [0, 2, 1], [0, 0, 0], [0, 0])))",
+    );
+}
+
+#[test]
+fn a_flat_frame_has_320_bytes(rt: HostRuntime) {
+    check_debug(&rt, size_of::<FlatFrame>(), "320");
+}

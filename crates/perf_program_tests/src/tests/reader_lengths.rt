@@ -1,0 +1,63 @@
+//! The length of the buffers that a reader has to fill.
+
+ghost use Rattle.std.specs.Prelude.{◌<◌};
+
+use crate::tests::checks::check_same;
+use crate::tests::runs::{PLAIN_72, TEXT, join};
+use perf_event_data::endian::Little;
+use perf_lines::outcome::Outcome;
+use perf_lines::run::run;
+use perf_test_inputs::bytes::TWO;
+use std::alloc::AllocError;
+use std::cell::Cell;
+use std::io;
+use std::io::Read;
+use std::process::Abort;
+
+// Fills buffers, and keeps the length of the longest one.
+#[derive(Drop)]
+struct LengthReader<'a> {
+    bytes: &'a [u8],
+    longest: &'a Cell<usize>,
+}
+
+impl Read for LengthReader<'_> {
+    fn read(&mut self, buf: &mut [u8]) -> io::Result<usize> {
+        self.longest.set(self.longest.get().max(buf.len()));
+        self.bytes.read(buf)
+    }
+}
+
+// Asserts that a run writes the text of two frames, and that its reader fills a piece at a time.
+fn check_piece(rt: &(impl AllocGlobal + Abort), bytes: &[u8], with_attr: bool, piece: usize)
+    requires { 0 < piece }
+{
+    let longest = Cell::new(0);
+    let reader = LengthReader {
+        bytes,
+        longest: &longest,
+    };
+    let mut output = Vec::new(rt.alloc());
+    let end = run(
+        rt.alloc(),
+        reader,
+        &mut output,
+        Little,
+        10,
+        with_attr,
+        piece,
+    );
+    let actual = (output.as_slice(), end, longest.get());
+    let want = (TEXT.as_bytes(), Outcome::Clean, piece);
+    check_same(rt, "what is written, and the longest piece", actual, want);
+}
+
+#[test]
+fn a_reader_fills_a_piece_at_a_time(rt: HostRuntime) -> Result<(), AllocError> {
+    let with_attr = join(rt.alloc(), &PLAIN_72, &TWO)?;
+    for &piece in &[1usize, 7, 8192] {
+        check_piece(&rt, &TWO, false, piece.max(1));
+        check_piece(&rt, &with_attr, true, piece.max(1));
+    }
+    Ok(())
+}

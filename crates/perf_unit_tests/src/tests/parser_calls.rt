@@ -1,0 +1,61 @@
+//! Byte strings, lists and conditions.
+
+use crate::check;
+use crate::tests::checks::check_text;
+use perf_event_data::endian::Little;
+use perf_event_data::parse::{ParseBuf, ParseConfig, ParseResult, Parser};
+use std::alloc::Global;
+use std::io::BufReader;
+use std::test::Fail;
+
+const BYTES: &[u8] = b"\x01\x02\x03\0\0";
+
+// Two bytes, and the rest without its zero bytes.
+fn text_of_bytes<'p, B: ParseBuf<'p> + Drop>(alloc: Global, buf: B) -> ParseResult<String> {
+    let mut parser = Parser::new(alloc, buf, ParseConfig::<Little>::default());
+    let mut text = String::new(alloc);
+    write!(text, "{:?}", parser.parse_bytes(2)?)?;
+    write!(text, " {:?}", parser.parse_rest_trim_nul()?)?;
+    Ok(text)
+}
+
+#[test]
+fn bytes_are_borrowed_over_a_slice_and_owned_over_a_reader(rt: HostRuntime) -> Result<(), Fail> {
+    let actual = text_of_bytes(rt.alloc(), BYTES)?;
+    check_text(&rt, Ok(actual), "Borrowed([1, 2]) Borrowed([3])");
+    let reader = BufReader::with_capacity(rt.alloc(), 7, BYTES)?;
+    let actual = text_of_bytes(rt.alloc(), reader)?;
+    check_text(&rt, Ok(actual), "Owned([1, 2]) Owned([3])");
+    Ok(())
+}
+
+#[test]
+fn a_closure_parses_a_slice(rt: HostRuntime) -> Result<(), Fail> {
+    let mut parser = Parser::new(rt.alloc(), BYTES, ParseConfig::<Little>::default());
+    let first = parser.parse_with(|parser| parser.parse_u8())?;
+    let second = parser.parse_if_with(false, |parser| parser.parse_u8())?;
+    check!(rt; (first, second), (1, None));
+    Ok(())
+}
+
+#[test]
+fn a_closure_parses_a_reader(rt: HostRuntime) -> Result<(), Fail> {
+    let reader = BufReader::with_capacity(rt.alloc(), 1, BYTES)?;
+    let mut parser = Parser::new(rt.alloc(), reader, ParseConfig::<Little>::default());
+    let first = parser.parse_with(|parser| parser.parse_u16())?;
+    let second = parser.parse_if_with(true, |parser| parser.parse_u8())?;
+    check!(rt; (first, second), (0x0201, Some(3)));
+    Ok(())
+}
+
+#[test]
+fn a_second_parser_of_a_slice_reads_on_alone(rt: HostRuntime) -> Result<(), Fail> {
+    let bytes: &[u8] = &[1, 2, 3];
+    let mut parser = Parser::new(rt.alloc(), bytes, ParseConfig::<Little>::default());
+    let first = parser.parse_u8()?;
+    let mut second = parser.clone()?;
+    let numbers = (first, second.parse_u16()?, parser.parse_u8()?);
+    check!(rt; numbers, (1, 0x0302, 2));
+    check!(rt; second.parse_rest()?.is_empty());
+    Ok(())
+}

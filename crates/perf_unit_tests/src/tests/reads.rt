@@ -1,0 +1,74 @@
+//! Reads of counters, alone and in groups.
+
+use crate::check;
+use crate::tests::checks::check_text;
+use perf_event_data::endian::Little;
+use perf_event_data::parse::{Parse, ParseConfig, Parser};
+use perf_event_data::sys::perf_event_attr;
+use perf_event_data::{Read, ReadGroup, ReadValue};
+use perf_test_helpers::asks::next_group;
+use perf_test_helpers::attributes::attribute;
+use std::alloc::{AllocError, Global};
+use std::process::Abort;
+use std::test::Fail;
+
+const ID: u64 = 1 << 2;
+
+const GROUP: u64 = 1 << 3;
+
+// All but GROUP.
+const ALL_OF_ONE: u64 = 0x17;
+
+// The attribute of an event whose counters are read in this format.
+fn reading(read_format: u64) -> perf_event_attr {
+    attribute(0, read_format)
+}
+
+// The configuration of that attribute.
+fn with_format(read_format: u64) -> ParseConfig<Little> {
+    ParseConfig::from(reading(read_format))
+}
+
+// READ of process 1 and thread 2, with the numbers from 3 to 7.
+const SEVEN: &[u8] = b"\x08\0\0\0\0\0\x38\0\x01\0\0\0\x02\0\0\0\x03\0\0\0\0\0\0\0\
+    \x04\0\0\0\0\0\0\0\x05\0\0\0\0\0\0\0\x06\0\0\0\0\0\0\0\x07\0\0\0\0\0\0\0";
+
+fn check_read(rt: &(impl AllocGlobal + Abort), read: &ReadValue, want: &str) {
+    check_text(rt, format!(in rt.alloc(); "{read:?}"), want);
+}
+
+#[test]
+fn a_read_as_a_group_and_back(rt: HostRuntime) -> Result<(), Fail> {
+    let mut parser = Parser::new(rt.alloc(), &SEVEN[8..], with_format(ALL_OF_ONE));
+    let read = Read::parse(&mut parser)?;
+    let group = ReadGroup::from_value(rt.alloc(), read.values)?;
+    check!(rt; group.len(), 1);
+    let want = "ReadValue { value: 3, time_enabled: Some(4), time_running: Some(5), id: Some(6), \
+        lost: Some(7) }";
+    check_read(&rt, &ReadValue::try_from(group)?, want);
+    Ok(())
+}
+
+// The bytes of numbers in little endian.
+fn bytes_of(alloc: Global, numbers: &[u64]) -> Result<Vec<u8>, AllocError> {
+    let mut bytes = Vec::new(alloc);
+    for number in numbers {
+        bytes.extend_from_slice(&number.to_le_bytes())?;
+    }
+    Ok(bytes)
+}
+
+#[test]
+fn an_entry_with_the_numbers_of_another_group(rt: HostRuntime) -> Result<(), Fail> {
+    let bytes = bytes_of(rt.alloc(), &[1, 5, 1, 8, 9])?;
+    let mut parser = Parser::new(rt.alloc(), bytes.as_slice(), with_format(GROUP));
+    let values = next_group(&mut parser)?;
+    let entry = values.get(0).ok_or("no entry")?;
+    let mut parser = parser.reconfigure(with_format(GROUP | ID));
+    let with_ids = next_group(&mut parser)?;
+    let read = ReadValue::from_group_and_entry(&with_ids, &entry);
+    let want =
+        "ReadValue { value: 5, time_enabled: None, time_running: None, id: Some(0), lost: None }";
+    check_read(&rt, &read, want);
+    Ok(())
+}
