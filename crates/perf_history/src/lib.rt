@@ -1,0 +1,4 @@
+//! Who a thread is, and what is mapped where, at each moment of a recording.
+#![tactic(auto)]
+
+mod forests;
