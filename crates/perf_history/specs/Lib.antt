@@ -1,2 +1,10 @@
 pub mod Ranges
 pub mod Forests
+pub mod Trees
+pub mod Spaces
+pub mod Modes
+pub mod Names
+pub mod FileNames
+pub mod Places
+pub mod Histories
+pub mod Recorded
