@@ -1,14 +1,14 @@
 -- The history of a recording: the changes so far, of which the newest is the first. What it states about
 -- a thread and an address is found by going back in time.
-use Rattle.std.specs.Prelude.{ℕ, ◌==◌, ◌&&◌, Bool, not, List, [], ◌∷◌, Option, Some, None, option_map, option_and_then, if◌then◌else◌}
+use Rattle.std.specs.Prelude.{ℕ, ◌==◌, ◌&&◌, List, [], ◌∷◌, Option, Some, None, option_map, option_and_then, if◌then◌else◌}
 use Rattle.std.specs.Borrow.{Bor}
+use Rattle.perf_history.specs.Forks.{origin}
 use Rattle.perf_history.specs.Modes.{kernel, space_of, space_at}
 use Rattle.perf_history.specs.Names.{name_or_number}
 use Rattle.perf_history.specs.Places.{mapping_of, mapping_of_symbol, place_in}
 use Rattle.perf_history.specs.Ranges.{is_within}
 use Rattle.perf_history.specs.declared.changes.Change.{Change}
 use Rattle.perf_history.specs.declared.changes.Change.TheVariants.{Comm, Fork, Map, Symbol}
-use Rattle.perf_history.specs.declared.changes.Fork as forks
 use Rattle.perf_history.specs.declared.changes.Mode.{Mode}
 use Rattle.perf_history.specs.declared.changes.Symbol as symbols
 use Rattle.perf_history.specs.declared.names.Name.{Name}
@@ -22,14 +22,6 @@ name_after (Comm c ∷ older) tid = if c.tid == tid then Some c.name else name_a
 name_after (Fork f ∷ older) tid = if f.tid == tid then name_after older f.ptid else name_after older tid
 name_after (Map m ∷ older) tid = name_after older tid
 name_after (Symbol s ∷ older) tid = name_after older tid
-
--- whether a new process, which is not the kernel, has the memory of its parent
-abbrev pub copies_memory : forks.Fork → Bool
-copies_memory f = not (f.pid == f.ppid) && not f.made_up && not (f.pid == kernel)
-
--- whose memory an address space was before a thread was made
-abbrev pub origin : forks.Fork → (space : ℕ) → ℕ
-origin f space = if f.pid == space && copies_memory f then f.ppid else space
 
 -- what a symbol leaves at its addresses
 abbrev pub symbol_or_none : symbols.Symbol → Option Mapping

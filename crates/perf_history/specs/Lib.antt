@@ -3,6 +3,7 @@ pub mod Forests
 pub mod Trees
 pub mod Spaces
 pub mod Modes
+pub mod Forks
 pub mod Names
 pub mod FileNames
 pub mod Places

@@ -3,6 +3,7 @@
 
 ghost use Rattle.std.specs.Prelude.{◌≡◌};
 ghost use Rattle.perf_history.specs.Modes.{mode_of, space_of, space_at};
+ghost use Rattle.perf_history.specs.Forks.{copies_memory};
 
 /// The number of the address space of the kernel: that of process -1, as perf writes it.
 pub(crate) const KERNEL: u32 = u32::MAX;
@@ -92,6 +93,15 @@ pub struct Fork {
     pub made_up: bool,
 }
 
+impl Fork {
+    // Whether a new process, which is not the kernel, has the memory of its parent.
+    pub(crate) fn copies_memory(self) -> bool
+        ensures { result ≡ copies_memory self }
+    {
+        self.pid != self.ppid && !self.made_up && self.pid != KERNEL
+    }
+}
+
 /// Something was mapped into the memory of a process or of the kernel (`PERF_RECORD_MMAP`,
 /// `PERF_RECORD_MMAP2`).
 #[derive(Clone, Copy, Debug)]
@@ -129,7 +139,7 @@ pub struct Symbol<'p> {
 }
 
 /// What identifies the file of a mapping.
-#[derive(Clone, Copy, Debug)]
+#[derive(Clone, Copy, Debug, PartialEq, Eq)]
 pub enum Identity<'p> {
     /// Nothing, as in an MMAP.
     Unknown,
@@ -140,7 +150,7 @@ pub enum Identity<'p> {
 }
 
 /// The inode of a file.
-#[derive(Clone, Copy, Debug)]
+#[derive(Clone, Copy, Debug, PartialEq, Eq)]
 pub struct Inode {
     /// The major number of the device that contains the file.
     pub major: u32,

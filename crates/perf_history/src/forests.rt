@@ -76,6 +76,13 @@ impl Forest {
         }
     }
 
+    /// How many branches there are.
+    pub fn len(&self) -> usize
+        ensures { result ≡ length self.now }
+    {
+        self.branches.len()
+    }
+
     // The branch with this index.
     fn branch(&self, index: u32) -> Branch
         requires { index < length self.now }

@@ -5,7 +5,7 @@ ghost use Rattle.std.specs.Prelude.{◌≡◌};
 ghost use Rattle.perf_history.specs.Names.{name_or_number};
 
 /// The name of a thread.
-#[derive(Clone, Copy, Debug)]
+#[derive(Clone, Copy, Debug, PartialEq, Eq)]
 pub enum Name<'p> {
     /// The name that it was given, or took over from its parent.
     Given(&'p [u8]),

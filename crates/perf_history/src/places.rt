@@ -8,7 +8,7 @@ ghost use Rattle.perf_history.specs.Places as places;
 use crate::changes::{Identity, Map, Symbol};
 
 /// In which file an address is.
-#[derive(Clone, Copy, Debug)]
+#[derive(Clone, Copy, Debug, PartialEq, Eq)]
 pub enum File<'p> {
     /// The file with this path, or what the kernel calls so, such as `[vdso]`.
     Named(&'p [u8]),
@@ -19,7 +19,7 @@ pub enum File<'p> {
 }
 
 /// What is mapped at an address.
-#[derive(Clone, Copy, Debug)]
+#[derive(Clone, Copy, Debug, PartialEq, Eq)]
 pub struct Place<'p> {
     /// In which file the address is.
     pub file: File<'p>,

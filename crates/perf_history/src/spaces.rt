@@ -32,6 +32,13 @@ impl Spaces {
         }
     }
 
+    /// How many branches its trees have.
+    pub fn branch_count(&self) -> usize
+        ensures { result ≡ length self.now.forest }
+    {
+        self.forest.len()
+    }
+
     // The tree of an address space.
     fn tree(&self, space: u32) -> Tree
         ensures { result ≡ tree_in self.now.trees space }
@@ -84,7 +91,8 @@ impl Spaces {
     /// Makes an address space as another one is. Out of memory nothing changes.
     pub fn copy(&mut self, from: u32, to: u32) -> Result<(), AllocError>
         ensures ok { OnOk result ((other address : ℕ) →
-            number_at self.new other address ≡ number_at self.old (if to == other then from else other) address) }
+            number_at self.new other address ≡ (if to == other
+            then number_at self.old from address else number_at self.old other address)) }
         ensures err { OnErr result (IsAs self.old self.new) }
     {
         let tree = self.tree(from);
