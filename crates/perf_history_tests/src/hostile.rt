@@ -1,6 +1,6 @@
 //! A hostile history: many mappings, and then forks of forks, each with a mapping of its own.
 
-use perf_history::{Change, File, Fork, History, Identity, Map, Mode};
+use perf_history::{Change, Fork, History, Identity, Map, Mode};
 use std::alloc::{AllocError, Global};
 
 fn map<'p>(pid: u32, start: u64) -> Change<'p> {
@@ -43,25 +43,23 @@ fn hostile(alloc: Global, count: u32) -> Result<History<'static>, AllocError> {
     Ok(history)
 }
 
+// A process, an address, and whether something is mapped there.
+const PLACES: [(u32, u64, bool); 4] = [
+    (1, 0x2000, true),
+    (1, 0x5000, false),
+    (4001, 0x2000, true),
+    (4001, 0x5000, true),
+];
+
 #[test]
 fn forks_of_forks(rt: HostRuntime) -> Result<(), AllocError> {
     let history = hostile(rt.alloc(), 4000)?;
-    let file = Some(File::Named(b"/bin/sh"));
-    for (pid, address, expected) in [
-        (1, 0x2000, file),
-        (1, 0x5000, None),
-        (4001, 0x2000, file),
-        (4001, 0x5000, file),
-    ] {
-        let place = history.place(pid, Mode::User, address);
-        assert_eq!(rt; place.map(|place| place.file), expected);
+    for (pid, address, is_mapped) in &PLACES {
+        let place = history.place(*pid, Mode::User, *address);
+        assert!(rt; place.is_some() == *is_mapped, "{pid} at {address:#x}");
     }
-    // Of 1.1 MB: at most 64 bytes a byte.
-    assert!(rt;
-        history.branch_count() < 500_000,
-        "{} branches",
-        history.branch_count()
-    );
+    // 8 MB, of a recording of 1.1 MB.
+    assert!(rt; history.branch_count() < 250_000);
     // Twice as many changes make little more than twice as many branches.
     let half = hostile(rt.alloc(), 2000)?;
     assert!(rt; history.branch_count() / 9 < half.branch_count() / 4);
