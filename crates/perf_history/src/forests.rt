@@ -1,7 +1,9 @@
 //! Trees that have a number, or none, at each address.
 //!
 //! Branches never change, and a tree is the index of one: so trees share branches, and a copy of a
-//! tree is a copy of an index.
+//! tree is a copy of an index. The two sides of a branch are kept nearly as tall as one another, so
+//! that a search and a change take few steps. No contract states that: where trees are turned for
+//! it, the order of their bounds is tested, and what they have stays the same whatever it is.
 #![tactic(auto)]
 
 ghost use Rattle.std.specs.Prelude.{◌≡◌, ◌+◌, ◌<◌, ◌≤◌, [], length, IfOk};
