@@ -22,6 +22,7 @@ RETURNS = {
     "perf_parser": "runs, frames handed out, own types",
     "perf_flat": "a frame as one struct, no memory",
     "perf_file": "the frames of a perf.data file",
+    "perf_history": "names of threads, and what is mapped",
     "perf_event_data": "the public names",
     "perf_event_c": "the calls for C, one archive",
     "perf_text": "text that is written backward",
@@ -34,11 +35,11 @@ RETURNS = {
     "perf_samples": "lines of samples",
     "perf_count": "three numbers",
 }
-FACES = ("perf_event_data", "perf_event_c", "perf_file")
+FACES = ("perf_event_data", "perf_event_c", "perf_file", "perf_history")
 OTHERS = {
     "Examples and measurements": ["perf_uses", "perf_bench"],
-    "Tests": ["perf_value_tests", "perf_program_tests", "perf_unit_tests", "perf_file_tests", "perf_out_of_memory",
-              "perf_replay"],
+    "Tests": ["perf_value_tests", "perf_program_tests", "perf_unit_tests", "perf_file_tests", "perf_history_tests",
+              "perf_out_of_memory", "perf_replay"],
     "What tests share": ["perf_test_inputs", "perf_test_helpers"],
 }
 
@@ -99,7 +100,7 @@ def levels_of(uses):
     for name, used in uses.items():
         users = [levels[it] for it in uses if name in uses[it]]
         if not used:
-            levels[name] = min(users) - 1
+            levels[name] = min(users, default=1) - 1
         elif not users and name not in FACES:
             levels[name] = max(levels.values())
     return levels

@@ -64,7 +64,7 @@ class Room:
         for crate in top.glob("crates/*"):
             shutil.copytree(crate, self.crate(crate.name), ignore=UNTRIED)
         text = (top / "crates.txt").read_text(encoding="utf-8")
-        self.uses = {found[1]: found[2].split() for found in re.finditer(r"^(\w+)[^:\n#]*: (.*)$", text, re.MULTILINE)}
+        self.uses = {found[1]: found[2].split() for found in re.finditer(r"^(\w+)[^:\n#]*: ?(.*)$", text, re.MULTILINE)}
         self.list()
 
     def crate(self, name):

@@ -1,0 +1,11 @@
+pub mod Ranges
+pub mod Forests
+pub mod Trees
+pub mod Spaces
+pub mod Modes
+pub mod Forks
+pub mod Names
+pub mod FileNames
+pub mod Places
+pub mod Histories
+pub mod Recorded

@@ -1,0 +1,289 @@
+//! Names and places as perf finds them: `thread__fork`, `map__new` and
+//! `machine__process_ksymbol` of its sources.
+
+use perf_history::{
+    Change, Comm, File, Fork, History, Identity, Inode, Map, Mode, Name, Place, Symbol,
+    keeps_address,
+};
+use std::alloc::{AllocError, Global};
+
+// A change, without what no test depends on.
+#[derive(Clone, Copy)]
+enum Step {
+    // A thread and its name.
+    Comm(u32, &'static [u8]),
+    // A process, its parent, and whether perf made that up. Its only thread has its id.
+    Process(u32, u32, bool),
+    // A process, and a new thread of it.
+    Thread(u32, u32),
+    // A process, the mode, the first address of 0x1000 bytes of code, the offset and the file.
+    Code(u32, Mode, u64, u64, &'static [u8]),
+    // A symbol of 0x100 bytes: its address, its name, and whether it was removed.
+    Symbol(u64, &'static [u8], bool),
+}
+
+fn change_of(step: Step) -> Change<'static> {
+    match step {
+        Step::Comm(tid, name) => Change::Comm(Comm { tid, name }),
+        Step::Process(pid, ppid, made_up) => Change::Fork(Fork {
+            pid,
+            ppid,
+            tid: pid,
+            ptid: ppid,
+            made_up,
+        }),
+        Step::Thread(pid, tid) => Change::Fork(Fork {
+            pid,
+            ppid: pid,
+            tid,
+            ptid: pid,
+            made_up: false,
+        }),
+        Step::Code(pid, mode, start, offset, file) => Change::Map(Map {
+            pid,
+            mode,
+            start,
+            len: 0x1000,
+            offset,
+            file,
+            identity: Identity::Unknown,
+            executable: true,
+        }),
+        Step::Symbol(start, name, removed) => Change::Symbol(Symbol {
+            start,
+            len: 0x100,
+            name,
+            removed,
+        }),
+    }
+}
+
+fn history_of(alloc: Global, steps: &[Step]) -> Result<History<'static>, AllocError> {
+    let mut history = History::new(alloc);
+    for step in steps {
+        history.apply(change_of(*step))?;
+    }
+    Ok(history)
+}
+
+const NAMING: [Step; 9] = [
+    Step::Comm(7, b"sh"),
+    Step::Process(8, 7, false),
+    Step::Thread(8, 9),
+    Step::Comm(7, b"bash"),
+    Step::Comm(8, b"ls"),
+    Step::Thread(7, 10),
+    Step::Process(6, 5, true),
+    Step::Comm(12, b"old"),
+    Step::Process(12, 5, false),
+];
+
+const NAMES: [(u32, Name<'static>); 9] = [
+    (0, Name::Swapper),
+    (5, Name::Number(5)),
+    (6, Name::Number(6)),
+    (7, Name::Given(b"bash")),
+    (8, Name::Given(b"ls")),
+    (9, Name::Given(b"sh")),
+    (10, Name::Given(b"bash")),
+    (12, Name::Number(12)),
+    (u32::MAX, Name::Number(u32::MAX)),
+];
+
+#[test]
+fn names(rt: HostRuntime) -> Result<(), AllocError> {
+    let history = history_of(rt.alloc(), &NAMING)?;
+    for (tid, name) in &NAMES {
+        assert_eq!(rt; history.comm(*tid), *name);
+    }
+    Ok(())
+}
+
+const MAPPING: [Step; 12] = [
+    Step::Code(
+        u32::MAX,
+        Mode::User,
+        0xffff_8000,
+        0xffff_8000,
+        b"[kernel.kallsyms]_text",
+    ),
+    Step::Code(3, Mode::Kernel, 0xffff_c000, 0, b"[xfs]"),
+    Step::Code(7, Mode::User, 0x5000, 0x3000, b"/bin/sh"),
+    Step::Code(7, Mode::User, 0x9000, 0, b"//anon"),
+    Step::Process(8, 7, false),
+    Step::Process(9, 7, true),
+    Step::Thread(7, 10),
+    Step::Code(7, Mode::User, 0x5800, 0, b"/bin/ls"),
+    Step::Symbol(0xffff_f000, b"bpf_prog_1", false),
+    Step::Symbol(0xffff_f200, b"bpf_prog_2", false),
+    Step::Symbol(0xffff_f200, b"bpf_prog_2", true),
+    Step::Code(
+        7,
+        Mode::User,
+        u64::MAX - 0x7ff,
+        0xffff_ffff_ffff_fff0,
+        b"/bin/top",
+    ),
+];
+
+// A process, the mode, an address, and what is there: the file and the offset.
+const PLACES: [(u32, Mode, u64, Option<(File<'static>, u64)>); 19] = [
+    (
+        7,
+        Mode::User,
+        0x57ff,
+        Some((File::Named(b"/bin/sh"), 0x37ff)),
+    ),
+    (7, Mode::User, 0x5800, Some((File::Named(b"/bin/ls"), 0))),
+    (
+        7,
+        Mode::User,
+        0x67ff,
+        Some((File::Named(b"/bin/ls"), 0xfff)),
+    ),
+    (7, Mode::User, 0x6800, None),
+    (7, Mode::User, 0x4fff, None),
+    (7, Mode::Other, 0x5000, None),
+    (7, Mode::Kernel, 0x5000, None),
+    (
+        8,
+        Mode::User,
+        0x5fff,
+        Some((File::Named(b"/bin/sh"), 0x3fff)),
+    ),
+    (9, Mode::User, 0x5fff, None),
+    (10, Mode::User, 0x5fff, None),
+    (7, Mode::User, 0x9abc, Some((File::PerfMap(7), 0x9abc))),
+    (8, Mode::User, 0x9abc, Some((File::PerfMap(7), 0x9abc))),
+    (
+        7,
+        Mode::User,
+        u64::MAX,
+        Some((File::Named(b"/bin/top"), 0x7ef)),
+    ),
+    (
+        8,
+        Mode::Kernel,
+        0xffff_8010,
+        Some((File::Named(b"[kernel.kallsyms]_text"), 0xffff_8010)),
+    ),
+    (
+        8,
+        Mode::Kernel,
+        0xffff_c010,
+        Some((File::Named(b"[xfs]"), 0x10)),
+    ),
+    (
+        8,
+        Mode::Kernel,
+        0xffff_f0ff,
+        Some((File::Symbol(b"bpf_prog_1"), 0xff)),
+    ),
+    (8, Mode::Kernel, 0xffff_f100, None),
+    (8, Mode::Kernel, 0xffff_f200, None),
+    (3, Mode::User, 0xffff_c010, None),
+];
+
+// The file and the offset that a history has at an address.
+fn at(
+    history: &History<'static>,
+    pid: u32,
+    mode: Mode,
+    address: u64,
+) -> Option<(File<'static>, u64)> {
+    match history.place(pid, mode, address) {
+        Some(place) => Some((place.file, place.offset)),
+        None => None,
+    }
+}
+
+#[test]
+fn files(rt: HostRuntime) -> Result<(), AllocError> {
+    let history = history_of(rt.alloc(), &MAPPING)?;
+    for (pid, mode, address, place) in &PLACES {
+        assert!(rt;
+            at(&history, *pid, *mode, *address) == *place,
+            "{pid} at {address:#x}"
+        );
+    }
+    Ok(())
+}
+
+const INODE: Identity<'static> = Identity::Inode(Inode {
+    major: 8,
+    minor: 1,
+    number: 1234,
+    generation: 5,
+});
+
+const HEAP: Map<'static> = Map {
+    pid: 7,
+    mode: Mode::User,
+    start: 0x1000,
+    len: 0x1000,
+    offset: 0,
+    file: b"[heap]",
+    identity: INODE,
+    executable: false,
+};
+
+#[test]
+fn a_whole_place(rt: HostRuntime) -> Result<(), AllocError> {
+    let mut history = History::new(rt.alloc());
+    history.apply(Change::Map(HEAP))?;
+    let place = history.place(7, Mode::User, 0x1fff);
+    let expected = Place {
+        file: File::Named(b"[heap]"),
+        offset: 0x1fff,
+        identity: INODE,
+        executable: false,
+    };
+    assert!(rt; place == Some(expected));
+    Ok(())
+}
+
+const MODES: [(u16, Mode); 8] = [
+    (0, Mode::Other),
+    (1, Mode::Kernel),
+    (2, Mode::User),
+    (3, Mode::Other),
+    (4, Mode::Other),
+    (5, Mode::Other),
+    (0x2002, Mode::User),
+    (0xfff9, Mode::Kernel),
+];
+
+#[test]
+fn modes(rt: HostRuntime) {
+    for (misc, mode) in &MODES {
+        assert!(rt; Mode::of_misc(*misc) == *mode, "{misc}");
+    }
+}
+
+// Names under which memory is mapped, and whether that is no file's.
+const FILES: [(&[u8], bool); 17] = [
+    (b"//anon", true),
+    (b"//anon2", false),
+    (b"//ano", false),
+    (b"/dev/zero", true),
+    (b"/dev/zero (deleted)", true),
+    (b"/dev/zer", false),
+    (b"/anon_hugepage (deleted)", true),
+    (b"[stack]", true),
+    (b"[stack:12]", true),
+    (b"[stac", false),
+    (b"/SYSV00000000 (deleted)", true),
+    (b"/sysv", false),
+    (b"[heap]", true),
+    (b"[heap]2", false),
+    (b"[vdso]", false),
+    (b"/usr/bin/ls", false),
+    (b"", false),
+];
+
+#[test]
+fn names_without_a_file(rt: HostRuntime) {
+    for (name, keeps) in &FILES {
+        assert!(rt; keeps_address(name) == *keeps, "{name:?}");
+    }
+}

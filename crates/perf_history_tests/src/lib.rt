@@ -1,0 +1,12 @@
+//! Names and places by hand, histories against a search back in time, and a hostile history.
+//! Without its tests this crate is empty.
+#![tactic(auto)]
+
+#[cfg(test)]
+mod by_hand;
+#[cfg(test)]
+mod generated;
+#[cfg(test)]
+mod hostile;
+#[cfg(test)]
+mod searching;
