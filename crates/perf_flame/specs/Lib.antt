@@ -1,0 +1,4 @@
+pub mod Lines
+pub mod FoldedLines
+pub mod Stacks
+pub mod StackText

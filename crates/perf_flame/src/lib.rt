@@ -1,0 +1,7 @@
+//! Folded stacks, their sums, and a flame graph of them: what tools for flame graphs read, and what
+//! they draw. A stack is the name of a command and those of the functions from the outermost to the
+//! innermost, with `;` between them.
+#![tactic(auto)]
+
+pub mod folded;
+pub mod stack;
