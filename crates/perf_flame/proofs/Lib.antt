@@ -1,1 +1,4 @@
 pub mod Adding
+pub mod Feeds
+pub mod UnderWay
+pub mod Digits

@@ -3,5 +3,7 @@
 //! innermost, with `;` between them.
 #![tactic(auto)]
 
+pub mod error;
 pub mod folded;
+pub mod reading;
 pub mod stack;
