@@ -4,3 +4,6 @@ pub mod Stacks
 pub mod StackText
 pub mod Messages
 pub mod Reading
+pub mod Keys
+pub mod Boxes
+pub mod Scans

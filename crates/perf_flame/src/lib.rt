@@ -5,5 +5,6 @@
 
 pub mod error;
 pub mod folded;
+pub mod laws;
 pub mod reading;
 pub mod stack;
