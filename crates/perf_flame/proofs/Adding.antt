@@ -10,7 +10,7 @@ use Rattle.std.specs.Ordering.{nat_cmp, is_eq, match_ordering}
 use Rattle.std.specs.declared.cmp.Ordering.TheVariants as ordering
 use Rattle.std.proofs.lemmas.Map.Keys.{sorted_head, sorted_tail}
 use Rattle.perf_flame.specs.Lines.{Line, stack_line, add_count}
-use Rattle.perf_flame.specs.FoldedLines.{entry_line}
+use Rattle.perf_flame.specs.FoldedLines.{entry_line, key_cmp}
 
 abbrev pub Entries : Type 0
 Entries = List (Vec ℕ × ℕ)
@@ -18,9 +18,6 @@ Entries = List (Vec ℕ × ℕ)
 -- whether a key is this stack
 abbrev pub is_stack : List ℕ → Vec ℕ → Bool
 is_stack stack key = is_eq (slice_cmp nat_cmp stack key.items)
-
-abbrev pub key_cmp : Vec ℕ → Vec ℕ → Ordering
-key_cmp a b = slice_cmp nat_cmp a.items b.items
 
 abbrev pub added : ℕ → ℕ → ℕ
 added v count = (v + count) % 2 ^ 64

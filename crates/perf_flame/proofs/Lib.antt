@@ -4,3 +4,7 @@ pub mod UnderWay
 pub mod Digits
 pub mod Begins
 pub mod Scanning
+pub mod Turning
+pub mod Passing
+pub mod Placing
+pub mod Ascending

@@ -143,7 +143,7 @@ new_step place share n b any is test so unless = grind (arith, nat_tests)
 old_step : (place share n : ℕ) (b : Bool) → n ≡ place + 1 → b ≡ leb n share → leb share place ≡ true → b ≡ false
 old_step place share n b is test new = grind (arith, nat_tests)
 
-chosen : {X : Type 0} (a b c : Bool) (x y z : X) → b ≡ c → (b ≡ true → x ≡ y) → cond (a && b) x z ≡ cond (a && c) y z
+chosen : {X : Type 0} (a b c : Bool) (x y z : X) → b ≡ c → (b ≡ true → x ≡ y) → cond a (cond b x z) z ≡ cond (a && c) y z
 chosen true true c x y z same are = are refl ∙ ap (λ t. cond t y z) same
 chosen true false c x y z same are = ap (λ t. cond t y z) same
 chosen false b c x y z same are = refl

@@ -17,6 +17,10 @@ frames_of inverted stack =
 abbrev pub key_of : (inverted : Bool) → List ℕ → List ℕ
 key_of inverted stack = flat_map frame_key (frames_of inverted stack)
 
+-- a line by its key
+abbrev pub key_line : (inverted : Bool) → Line → Line
+key_line inverted l = stack_line (key_of inverted l.stack) l.count
+
 -- lines by their keys, in the order of these
 abbrev pub by_frames : (inverted : Bool) → List Line → List Line
-by_frames inverted lines = add_lines [] (map (λ (l : Line). stack_line (key_of inverted l.stack) l.count) lines)
+by_frames inverted lines = add_lines [] (map (key_line inverted) lines)

@@ -7,3 +7,4 @@ pub mod Reading
 pub mod Keys
 pub mod Boxes
 pub mod Scans
+pub mod BoxViews

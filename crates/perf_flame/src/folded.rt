@@ -21,8 +21,8 @@ const MOST_AFTER_STACK: usize = 22;
 /// a line feed is not read back.
 #[derive(Drop)]
 pub struct Folded {
-    alloc: Global,
-    counts: BTreeMap<Vec<u8>, u64>,
+    pub(crate) alloc: Global,
+    pub(crate) counts: BTreeMap<Vec<u8>, u64>,
 }
 
 impl Folded {

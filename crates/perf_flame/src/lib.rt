@@ -3,8 +3,10 @@
 //! innermost, with `;` between them.
 #![tactic(auto)]
 
+mod boxes;
 pub mod error;
 pub mod folded;
+mod keys;
 pub mod laws;
 pub mod reading;
 pub mod stack;
