@@ -8,3 +8,4 @@ pub mod Turning
 pub mod Passing
 pub mod Placing
 pub mod Ascending
+pub mod Appending

@@ -7,4 +7,6 @@ pub mod Reading
 pub mod Keys
 pub mod Boxes
 pub mod Scans
+pub mod Svg
 pub mod BoxViews
+pub mod Flames

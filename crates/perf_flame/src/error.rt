@@ -1,7 +1,8 @@
-//! Why a text of folded stacks is refused.
+//! Why a text of folded stacks, or a flame graph, is refused.
 
 ghost use Rattle.std.specs.Prelude.{◌≡◌, Some};
 ghost use Rattle.perf_flame.specs.Messages as messages;
+ghost use Rattle.perf_flame.specs.declared.error.FlameError.TheVariants as flame;
 ghost use Rattle.perf_flame.specs.declared.error.FoldedError.TheVariants.{OutOfMemory};
 
 use std::alloc::AllocError;
@@ -44,3 +45,38 @@ impl fmt::Display for FoldedError {
 }
 
 impl std::error::Error for FoldedError {}
+
+/// Why a flame graph is refused.
+#[derive(Copy, Clone, Debug, PartialEq, Eq)]
+pub enum FlameError {
+    /// The sum of all counts is 2^64 or more.
+    TooMany,
+    /// Out of memory.
+    OutOfMemory,
+}
+
+impl From<AllocError> for FlameError {
+    ghost from_gives = { λ _ e. e ≡ flame.OutOfMemory };
+
+    fn from(_error: AllocError) -> FlameError {
+        FlameError::OutOfMemory
+    }
+}
+
+/// What is wrong, and what to do.
+impl fmt::Display for FlameError {
+    ghost output = { λ e. Some (messages.flame_message e) };
+
+    fn fmt<W: fmt::Write>(&self, f: &mut fmt::Formatter<W>) -> fmt::Result {
+        match self {
+            FlameError::TooMany => {
+                write!(f, "the counts have a sum of 2^64 or more: leave lines out")
+            }
+            FlameError::OutOfMemory => {
+                write!(f, "out of memory: leave more of it to the program")
+            }
+        }
+    }
+}
+
+impl std::error::Error for FlameError {}

@@ -1,9 +1,11 @@
 //! Stacks with their counts.
 
-ghost use Rattle.std.specs.Prelude.{◌≡◌, ◌<◌, ◌^◌, ◌++◌, [], IfOk, OnOk, OnErr, None};
+ghost use Rattle.std.specs.Prelude.{◌≡◌, ◌<◌, ◌^◌, ◌++◌, [], IfOk, OnOk, OnErr, None, map};
 ghost use Rattle.std.specs.Bool.{OnTrue, OnFalse};
 ghost use Rattle.std.specs.BTreeMap.{get_by};
 ghost use Rattle.std.specs.Cmp.Lexicographic.{slice_cmp};
+ghost use Rattle.std.specs.List.Sorted.{IsStrictlySortedBy};
+ghost use Rattle.std.specs.Map.{keys_of};
 ghost use Rattle.std.specs.Option.{SomeIff};
 ghost use Rattle.std.specs.Ordering.{nat_cmp};
 ghost use Rattle.perf_flame.specs.Lines.{add_count, line_text, lines_text, stack_line, total_of};
@@ -26,7 +28,7 @@ pub struct Folded {
 }
 
 impl Folded {
-    ghost use Rattle.perf_flame.specs.FoldedLines.{folded_lines};
+    ghost use Rattle.perf_flame.specs.FoldedLines.{entry_line, folded_lines, key_cmp};
 
     /// No stacks.
     pub fn new(alloc: Global) -> Folded
@@ -91,6 +93,15 @@ impl Folded {
             push_line(&mut text, stack, *count)?;
         }
         Ok(text)
+    }
+
+    // The stacks and their counts.
+    pub(crate) fn into_entries(self) -> Result<Vec<(Vec<u8>, u64)>, AllocError>
+        ensures entries { IfOk result (λ found. map entry_line found.items ≡ folded_lines self) }
+        ensures ordered { IfOk result (λ found. IsStrictlySortedBy key_cmp (keys_of found.items)) }
+    {
+        let Folded { alloc, counts } = self;
+        counts.into_iter().collect(alloc)
     }
 
     // A length that the text does not exceed.

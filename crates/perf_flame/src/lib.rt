@@ -5,8 +5,10 @@
 
 mod boxes;
 pub mod error;
+pub mod flame;
 pub mod folded;
 mod keys;
 pub mod laws;
 pub mod reading;
 pub mod stack;
+mod svg;
