@@ -9,3 +9,4 @@ pub mod Passing
 pub mod Placing
 pub mod Ascending
 pub mod Appending
+pub mod Drawn

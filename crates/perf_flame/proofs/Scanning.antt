@@ -1,15 +1,14 @@
 -- One pass over stacks in order finds the boxes of their beginnings.
-use Rattle.std.proofs.Common.{◌≡◌, ℕ, zero, suc, ◌+◌, ◌<◌, ◌≤◌, Bool, true, false, cond, not, eqb, ltb, leb, ◌&&◌, ◌||◌, List, [], ◌∷◌, ◌++◌, take, length, sum_by, refl, sym, ap, subst, ◌∙◌, inl, inr, append_assoc, append-nil, add-zero, zero-add, arith}
-use Rattle.std.specs.Prelude.{count_by, ◌⊎◌, slice_index, nat_lt, nat_le}
+use Rattle.std.proofs.Common.{◌≡◌, ℕ, zero, suc, ◌+◌, ◌<◌, Bool, true, false, cond, not, eqb, ltb, leb, ◌&&◌, ◌||◌, List, [], ◌∷◌, ◌++◌, take, length, refl, sym, ap, subst, ◌∙◌, inl, inr, append_assoc, add-zero, zero-add, arith}
+use Rattle.std.specs.Prelude.{count_by, ◌⊎◌, slice_index}
 use Rattle.std.specs.List.{common_prefix_len, list_any}
-use Rattle.std.proofs.lemmas.Bool.{false≢true, cases_lt, lt-ltb, le-ltb, le-leb}
 use Rattle.std.proofs.lemmas.Bool.Decides.{nat_tests}
 use Rattle.std.proofs.lemmas.List.{length-take-le}
 use Rattle.std.proofs.lemmas.List.Folds.{list_any-append}
 use Rattle.std.proofs.lemmas.List.Sums.{sum_by-append, sum_by-cons, sum_by_push}
 use Rattle.perf_flame.specs.Lines.{Line, total_of}
-use Rattle.perf_flame.specs.Boxes.{Box, begins, is_before, worth_of, left_of, flame_box, box_at, if_wide, joined_below, new_box_at, new_boxes, boxes_after, last_name}
-use Rattle.perf_flame.specs.Scans.{shares, run, scanned_box, scanned_boxes, scan}
+use Rattle.perf_flame.specs.Boxes.{Box, begins, is_before, worth_of, left_of, flame_box, if_wide, joined_below, new_box_at, boxes_after, last_name}
+use Rattle.perf_flame.specs.Scans.{shares, run, scanned_box, scan}
 use Rattle.perf_flame.proofs.Begins.{before_trans, not_before_itself, between, before_longer, before_or_begins, not_before, begins_alike, common_flip, begins_take}
 
 -- ---- a sum over one more line

@@ -10,3 +10,4 @@ pub mod Scans
 pub mod Svg
 pub mod BoxViews
 pub mod Flames
+pub mod Laws

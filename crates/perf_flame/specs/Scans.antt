@@ -1,5 +1,5 @@
 -- How the boxes are found in one pass over stacks in order.
-use Rattle.std.specs.Prelude.{ℕ, zero, suc, ◌+◌, ◌==◌, nat_lt, nat_le, nat_eq, if◌then◌else◌, List, [], ◌∷◌, ◌++◌, length, take, count_by, slice_index}
+use Rattle.std.specs.Prelude.{ℕ, ◌+◌, ◌==◌, nat_lt, nat_le, nat_eq, if◌then◌else◌, List, [], ◌∷◌, ◌++◌, length, take, count_by, slice_index}
 use Rattle.std.specs.List.{common_prefix_len}
 use Rattle.perf_flame.specs.Lines.{Line}
 use Rattle.perf_flame.specs.Boxes.{Box, flame_box, last_name, if_wide, joined_below}

@@ -1,5 +1,5 @@
 -- The text of a flame graph: an SVG of 1200 pixels.
-use Rattle.std.specs.Prelude.{ℕ, ◌+◌, ◌-◌, ◌*◌, ◌/◌, ◌%◌, ◌^◌, ◌==◌, nat_lt, nat_le, min, max, if◌then◌else◌, List, [], ◌∷◌, ◌++◌, take, map, codes, decimal, fold}
+use Rattle.std.specs.Prelude.{ℕ, ◌+◌, ◌-◌, ◌*◌, ◌/◌, ◌%◌, ◌^◌, ◌==◌, nat_lt, min, max, if◌then◌else◌, List, [], ◌∷◌, ◌++◌, take, codes, decimal, fold}
 use Rattle.std.specs.List.{flat_map}
 use Rattle.perf_text.specs.Numbers.{hex_byte}
 use Rattle.perf_flame.specs.Boxes.{Box, boxes_of}
@@ -57,7 +57,7 @@ width_of total b = edge total (b.left + b.worth) - edge total b.left
 
 -- a number that its name determines
 abbrev pub hash : List ℕ → ℕ
-hash name = fold (λ h b. ((h * 33) % 2 ^ 32 + b) % 2 ^ 32) 5381 name
+hash name = fold (λ h b. ((h + b) % 2 ^ 32 * 16777619) % 2 ^ 32) 2166136261 name
 
 -- the title of a box: its name in ASCII, its count, and what part of all that is
 unfoldable pub title_of : (name : List ℕ) → (worth percent : ℕ) → List ℕ

@@ -1,8 +1,22 @@
-//! Laws.
+//! Laws of folded stacks and flame graphs. A law is the contract of a call; at run time the call does
+//! nothing.
 
-ghost use Rattle.std.specs.Prelude.{◌≡◌, ℕ, List, true};
-ghost use Rattle.perf_flame.specs.Boxes.{is_before};
+ghost use Rattle.perf_flame.specs.Laws as laws;
 
-pub fn order_law()
-    ensures { (xs ys zs : List ℕ) → is_before xs ys ≡ true → is_before ys zs ≡ true → is_before xs zs ≡ true }
+/// In a flame graph the box of a beginning is inside that of each beginning of it, also as drawn, in
+/// thousandths of a pixel.
+pub fn inside_law()
+    ensures counts { laws.ChildIsInside }
+    ensures drawn { laws.ChildIsDrawnInside }
+{}
+
+/// The boxes of two beginnings, of which neither begins with the other, do not overlap, also as drawn.
+pub fn apart_law()
+    ensures counts { laws.OthersAreApart }
+    ensures drawn { laws.OthersAreDrawnApart }
+{}
+
+/// In a text as XML writes it no `<`, `>` or `"` is left, and each `&` begins one of four entities.
+pub fn escaped_law()
+    ensures { laws.EscapedOpensNothing }
 {}

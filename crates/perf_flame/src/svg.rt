@@ -12,6 +12,11 @@ use std::alloc::{AllocError, Global};
 // The number of letters that are worth a label.
 const FEWEST_LETTERS: usize = 3;
 
+// The numbers of the hash FNV-1.
+const HASH_START: u32 = 2166136261;
+
+const HASH_STEP: u32 = 16777619;
+
 /// The text of boxes, whose stacks have that total.
 pub(crate) fn text_of(
     alloc: Global,
@@ -106,9 +111,9 @@ fn row(frames: usize) -> u64
 fn hash(name: &[u8]) -> u32
     ensures { result ≡ svg.hash name.now }
 {
-    let mut found = 5381u32;
+    let mut found = HASH_START;
     for byte in name {
-        found = found.wrapping_mul(33).wrapping_add(u32::from(*byte));
+        found = found.wrapping_add(u32::from(*byte)).wrapping_mul(HASH_STEP);
     }
     found
 }

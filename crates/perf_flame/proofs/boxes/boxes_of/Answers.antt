@@ -1,4 +1,4 @@
-use Rattle.std.proofs.Common.{◌≡◌, [], ◌∷◌, ◌++◌, ℕ, List, length, map, sym, ap, zero-add, ◌∙◌, arith}
+use Rattle.std.proofs.Common.{[], ◌∷◌, ◌++◌, ℕ, List, length, map, sym, ap, zero-add, ◌∙◌, arith}
 use Rattle.std.proofs.lemmas.List.{length-map, drop_all}
 use Rattle.perf_flame.specs.Boxes.{if_wide, flame_box}
 use Rattle.perf_flame.specs.BoxViews.{box_view}

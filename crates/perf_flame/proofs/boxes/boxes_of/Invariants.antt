@@ -1,10 +1,10 @@
-use Rattle.std.proofs.Common.{◌≡◌, ◌+◌, ◌++◌, [], map, drop, length}
+use Rattle.std.proofs.Common.{◌≡◌, ◌+◌, ◌++◌, map, drop, length}
 use Rattle.std.specs.Prelude.{codes}
 use Rattle.perf_flame.specs.Boxes.{if_wide, flame_box}
 use Rattle.perf_flame.specs.BoxViews.{box_view}
 use Rattle.perf_flame.specs.FoldedLines.{entry_line}
 use Rattle.perf_flame.specs.Lines.{total_of}
-use Rattle.perf_flame.specs.Scans.{scan, shares}
+use Rattle.perf_flame.specs.Scans.{scan}
 use Rattle.perf_flame.proofs.boxes.boxes_of.Given as goal
 
 abbrev pub invariant-loop-at : goal.invariant-loop-at

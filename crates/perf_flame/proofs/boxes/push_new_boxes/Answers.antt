@@ -1,4 +1,4 @@
-use Rattle.std.proofs.Common.{◌≡◌, ◌≢◌, ◌<◌, ◌-◌, ◌+◌, eqb, ℕ, List, get_or, take, drop, length, map, sym, ap, subst, ◌∙◌, arith}
+use Rattle.std.proofs.Common.{◌≡◌, ◌≢◌, ◌<◌, ◌-◌, ◌+◌, eqb, ℕ, List, get_or, take, drop, length, map, ap, subst, ◌∙◌, arith}
 use Rattle.std.specs.Global as heap
 use Rattle.std.specs.Prelude.{count_by}
 use Rattle.perf_flame.specs.Boxes.{last_name}

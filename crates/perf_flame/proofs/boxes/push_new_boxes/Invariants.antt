@@ -1,4 +1,4 @@
-use Rattle.std.proofs.Common.{◌≡◌, ◌+◌, ◌-◌, ◌≤◌, ◌++◌, eqb, map, take, drop, length}
+use Rattle.std.proofs.Common.{◌≡◌, ◌+◌, ◌-◌, ◌≤◌, ◌++◌, eqb, map, take, drop}
 use Rattle.std.specs.Prelude.{count_by}
 use Rattle.perf_flame.specs.Boxes.{last_name, joined_below}
 use Rattle.perf_flame.specs.BoxViews.{box_view}

@@ -1,4 +1,4 @@
-use Rattle.std.proofs.Common.{◌≡◌, ◌+◌, drop, eqb, inr, arith}
+use Rattle.std.proofs.Common.{◌≡◌, drop, eqb, inr, arith}
 use Rattle.std.specs.List.{common_prefix_len}
 use Rattle.perf_flame.proofs.Passing.{common_end}
 use Rattle.perf_flame.proofs.boxes.shared_len.Goals as goal

@@ -1,4 +1,4 @@
-use Rattle.std.proofs.Common.{◌++◌, List, ℕ, Bor, ap, ◌∙◌, take, arith}
+use Rattle.std.proofs.Common.{◌++◌, List, ℕ, Bor, ap, ◌∙◌, arith}
 use Rattle.std.specs.List.{flat_map}
 use Rattle.std.proofs.lemmas.List.{take_all}
 use Rattle.perf_flame.specs.Keys.{frame_key}

@@ -1,4 +1,4 @@
-use Rattle.std.proofs.Common.{◌≡◌, ◌++◌, map, take, List, ℕ, Bor}
+use Rattle.std.proofs.Common.{◌≡◌, ◌++◌, take, List, ℕ, Bor}
 use Rattle.std.specs.List.{flat_map}
 use Rattle.perf_flame.specs.Keys.{frame_key}
 use Rattle.perf_flame.proofs.keys.push_frames.Given as goal

@@ -1,4 +1,4 @@
-use Rattle.std.proofs.Common.{ℕ, List, ◌++◌, ◌+◌, ◌/◌, ◌%◌, decimal, ap, ◌∙◌}
+use Rattle.std.proofs.Common.{ℕ, List, ◌++◌, decimal, ap, ◌∙◌}
 use Rattle.std.specs.Prelude.{codes}
 use Rattle.perf_flame.specs.Svg.{fill_text}
 use Rattle.perf_flame.proofs.Appending.{appended}

@@ -1,7 +1,7 @@
 use Rattle.std.proofs.Common.{◌≡◌, ◌+◌, ◌-◌, ◌^◌, ◌++◌, map, take, min}
 use Rattle.std.specs.List.{flat_map}
 use Rattle.perf_flame.specs.BoxViews.{box_view}
-use Rattle.perf_flame.specs.Svg.{box_text, deepest_of, head_text, row}
+use Rattle.perf_flame.specs.Svg.{box_text, head_text, row}
 use Rattle.perf_flame.proofs.svg.text_of.Given as goal
 
 abbrev pub invariant-loop-one : goal.invariant-loop-one
