@@ -1,0 +1,12 @@
+pub mod Adding
+pub mod Feeds
+pub mod UnderWay
+pub mod Digits
+pub mod Begins
+pub mod Scanning
+pub mod Turning
+pub mod Passing
+pub mod Placing
+pub mod Ascending
+pub mod Appending
+pub mod Drawn

@@ -1,0 +1,13 @@
+pub mod Lines
+pub mod FoldedLines
+pub mod Stacks
+pub mod StackText
+pub mod Messages
+pub mod Reading
+pub mod Keys
+pub mod Boxes
+pub mod Scans
+pub mod Svg
+pub mod BoxViews
+pub mod Flames
+pub mod Laws
