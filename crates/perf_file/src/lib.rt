@@ -42,6 +42,6 @@ pub use events::Event;
 pub use feature::{BadFeature, Feature};
 pub use header_texts::SampleTimes;
 pub use listing::{FileFrame, FileFrames};
-pub use naming::EventName;
+pub use naming::{EscapedBytes, EventName};
 pub use opening::Recording;
 pub use owning::Owner;
