@@ -72,7 +72,10 @@ fn text_of(
             let text = text_of_events(alloc, recording)?;
             Ok((text, false))
         }
-        Show::EventsWithHeader => text_with_header(alloc, recording),
+        Show::EventsWithHeader => {
+            let (text, refused) = text_with_header(alloc, recording)?;
+            Ok((text, refused))
+        }
         Show::Dump => text_of_dump(alloc, recording),
         Show::DumpByTime => text_by_time(alloc, recording),
     }

@@ -1,5 +1,5 @@
 -- Features counted one after another.
-use Rattle.std.proofs.Common.{◌≡◌, ℕ, suc, ◌+◌, Bool, true, false, List, refl, arith}
+use Rattle.std.proofs.Common.{◌≡◌, ℕ, suc, ◌+◌, true, false, List, refl, arith}
 use Rattle.perf_base.specs.Order.{Order}
 use Rattle.perf_file.specs.FeatureTable.{has_feature, features_before}
 

@@ -1,5 +1,5 @@
 -- Strings one after another, as a loop reads them.
-use Rattle.std.proofs.Common.{◌≡◌, ℕ, zero, suc, ◌-◌, ◌+◌, ◌<◌, ◌≤◌, Bool, true, false, List, [], ◌∷◌, drop, refl, sym, ap, arith}
+use Rattle.std.proofs.Common.{◌≡◌, ℕ, zero, suc, ◌-◌, ◌+◌, ◌<◌, true, false, List, [], ◌∷◌, drop, refl, sym, ap, arith}
 use Rattle.perf_base.specs.Order.{Order}
 use Rattle.perf_file.specs.FeatureTexts.{is_whole, text_in, string_size, words, are_whole}
 

@@ -1,4 +1,4 @@
-use Rattle.std.proofs.Common.{◌≡◌, ℕ, List, ◌++◌, codes, string_bytes, ap, ◌∙◌, append_assoc}
+use Rattle.std.proofs.Common.{ℕ, List, ◌++◌, codes, string_bytes, ap, ◌∙◌, append_assoc}
 use Rattle.perf_file.specs.FeatureTexts.{words_left}
 use Rattle.perf_data_text.specs.HeaderText as headers
 use Rattle.perf_data_text.proofs.header.push_words_line.Goals as goal
