@@ -81,8 +81,49 @@ for name in machine group killed; do
     fi
 done
 
+# What perf states about the machine and the command, before the events: the machine is `vm`, and the words are those of
+# examples/record-events.sh. header NAME FILE [WORD ..]
+header() {
+    name=$1 file_of_it=$2
+    shift 2
+    {
+        echo '# hostname : vm'
+        if [ $# -gt 0 ]; then
+            echo '# os release : 6.18.44-fc-v595'
+            printf '# cmdline : /usr/bin/perf record -q -B -o'
+            printf ' %s' "$@"
+            printf '\n# sample times : 0 0\n'
+        fi
+        cat "$examples/$name.events"
+    } >"$work/output"
+    check 0 "$work/output" events --header "$file_of_it"
+}
+header events "$file" events.data -e task-clock/period=2000000/ -e page-faults/period=7,call-graph=fp/ -e context-switches/period=1/ \
+    --namespaces -- sh -c 'ls / >/dev/null\x0a        date > /dev/null\x0a        sleep 0.01 & wait'
+header machine "$examples/machine.data" machine.data -a -e cpu-clock/freq=1000/ -- sh -c 'ls / > /dev/null\x0a        sleep 0.01'
+header group "$examples/group.data" group.data -e '{task-clock,page-faults}:S' -c 250000 -- ls -l /usr/bin
+header events "$examples/big-endian.data"
+check 0 "$examples/killed.events" events --header "$examples/killed.data"
+
+# A bad feature: the length of the name of the machine is the first number of the first feature, whose offset is the first
+# number after the data. Then the offset is beyond the file.
+read -r last size < <(tail -n 1 "$examples/events.dump" | cut -d ' ' -f 2,6)
+table=$((last + size))
+name_at=$(od -A n -t u8 -j $table -N 8 "$file")
+{
+    echo '# hostname refused'
+    "${program[@]}" events --header "$file" | tail -n +2
+} >"$work/output"
+cp "$file" "$work/damaged"
+damage $name_at '\100\0\0\1'
+check 1 "$work/output" events --header "$work/damaged"
+cp "$file" "$work/damaged"
+damage $((table + 7)) '\1'
+check 1 "$work/output" events --header "$work/damaged"
+check 0 "$examples/events.events" events "$work/damaged"
+
 # Other words, and help.
-for words in '' events dump other 'events one two' 'dump one two' 'dump --order' 'dump --order size one' 'events --order time one' '--all' 'dump --all one'; do
+for words in '' events dump other 'events one two' 'dump one two' 'dump --order' 'dump --order size one' 'events --order time one' 'dump --header one' '--all' 'dump --all one'; do
     # shellcheck disable=SC2086  # these are several words
     check 2 /dev/null $words
 done

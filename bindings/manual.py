@@ -92,7 +92,7 @@ def marked(usage):
 
 def options(program):
     """The section of options, if there are any."""
-    entries = [f".TP\n.B {roff(name)} {'|'.join(values)}\n{roff(about)}" for name, (values, about)
+    entries = [f".TP\n.B {' '.join([roff(name), '|'.join(values)]).rstrip()}\n{roff(about)}" for name, (values, about)
                in program.options.items()]
     if program.help:
         entries.append(f".TP\n.B {roff('--help')}\nPrints this:\n.PP\n.nf\n" + roff("\n".join(program.help)) + "\n.fi")
@@ -114,7 +114,7 @@ def page(program, names):
 
 def completion(program):
     """The text of a completion: the words after an option, then those at each place, then the options, after a dash."""
-    words = {f"*:{name}": values for name, (values, _about) in program.options.items()}
+    words = {f"*:{name}": values for name, (values, _about) in program.options.items() if values}
     words.update({f"{place}:*": names for place, names in enumerate(program.places, 1) if names})
     cases = [f'    {pattern}) words="{" ".join(names)}" ;;' for pattern, names in words.items()]
     if program.options:

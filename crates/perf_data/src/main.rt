@@ -1,16 +1,17 @@
 //! Prints what is inside a file of `perf record`.
 //!
-//! `perf_data events FILE` prints a line for each event. `perf_data dump FILE` prints a line for each
+//! `perf_data events FILE` prints a line for each event, with `--header` after lines of what perf states
+//! about the machine and the command. `perf_data dump FILE` prints a line for each
 //! frame in the order of the file, with `--order time` by time: what the line of `perfrec` has, and
 //! after its number the offset of the frame in the file and its event. A FILE of `-` is standard
 //! input. The whole file is read into memory, and all of its text is made before any is written.
 //!
-//! The exit status is 0 if every frame could be read, 1 if one was refused, 2 if the file is none of
+//! The exit status is 0 if every frame and feature could be read, 1 if one was refused, 2 if the file is none of
 //! `perf record` or damaged, and for other words, and 3 if reading, writing or an allocation failed.
 //! With 2 and 3 the reason is printed on standard error. `--help` prints the words.
 #![tactic(auto)]
 
-use clap::{Arg, ArgMatches, Command};
+use clap::{Arg, ArgAction, ArgMatches, Command};
 use perf_data_text::run::{Show, run, status_after};
 use perf_file::OpenError;
 use perf_lines::outcome::Outcome;
@@ -21,7 +22,7 @@ use std::{env, fs, io};
 
 // What is printed after the words.
 const STATUSES: &str = "FILE is what `perf record` writes; `-` is standard input.
-Status: 0 if no frame is refused, 1 if one is, 2 if the file cannot be opened
+Status: 0 if no frame or feature is refused, 1 if one is, 2 if the file cannot be opened
 or the words are wrong, 3 if reading, writing or an allocation fails.";
 
 fn main(rt: HostRuntime) -> ExitCode {
@@ -56,8 +57,13 @@ fn program<'a>(alloc: Global) -> Result<Command<'a>, AllocError> {
         .value_parser(["file", "time"].as_slice())
         .default_value("file")
         .help("In which order");
+    let header = Arg::new(alloc, "header")
+        .long("header")
+        .action(ArgAction::SetTrue)
+        .help("Also prints the machine, its kernel, the command, build ids, and sample times");
     let events = Command::new(alloc, "events")
         .about("Prints a line for each event")
+        .arg(header)?
         .arg(file_word(alloc))?;
     let dump = Command::new(alloc, "dump")
         .about("Prints a line for each frame")
@@ -82,7 +88,11 @@ fn file_word<'a>(alloc: Global) -> Arg<'a> {
 // What is shown for a command and its words.
 fn shown(command: &str, words: &ArgMatches<'_>) -> Show {
     if command == "events" {
-        return Show::Events;
+        return if words.get_flag("header") {
+            Show::EventsWithHeader
+        } else {
+            Show::Events
+        };
     }
     match words.get_str("order") {
         Some(order) => if order == "time" {

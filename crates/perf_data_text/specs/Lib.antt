@@ -1,4 +1,5 @@
 pub mod EventText
 pub mod OwnNames
 pub mod DumpText
+pub mod HeaderText
 pub mod Shown

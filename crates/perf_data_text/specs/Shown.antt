@@ -1,5 +1,5 @@
 -- What is written of a file.
-use Rattle.std.specs.Prelude.{◌≡◌, ℕ, Bool, false, List, take, Option, Result, Ok, Err, if◌then◌else◌}
+use Rattle.std.specs.Prelude.{◌≡◌, ◌++◌, ℕ, Bool, false, List, take, Option, Result, Ok, Err, if◌then◌else◌}
 use Rattle.std.specs.Io.KnownBytes.{Appends}
 use Rattle.perf_lines.specs.Outcomes.{status_of}
 use Rattle.perf_lines.specs.declared.outcome.Outcome.{Outcome}
@@ -12,14 +12,18 @@ use Rattle.perf_file.specs.declared.error.OpenError.{OpenError}
 use Rattle.perf_file.specs.declared.error.OpenError.TheVariants as errors
 use Rattle.perf_data_text.specs.EventText.{events_text}
 use Rattle.perf_data_text.specs.DumpText.{IsTextOfPieces, IsTextByTime}
+use Rattle.perf_data_text.specs.HeaderText.{header_text, is_refused}
 use Rattle.perf_data_text.specs.declared.run.Show.{Show}
 use Rattle.perf_data_text.specs.declared.run.Show.TheVariants as show
 
--- the text of what is shown of a file with these descriptions of its events, in which some frames are refused or none
-abbrev pub IsTextOf : Show → File → (descriptions : List ℕ) → (refused : Bool) → List ℕ → Type 0
-IsTextOf show.Events f descriptions refused text = (refused ≡ false) × (text ≡ events_text f descriptions)
-IsTextOf show.Dump f descriptions refused text = IsTextOfPieces f (pieces_of f) refused text
-IsTextOf show.DumpByTime f descriptions refused text = IsTextByTime f refused text
+-- the text of what is shown of a file with these bytes and these descriptions of its events, in which
+-- some frames or features are refused or none
+abbrev pub IsTextOf : Show → File → (bytes descriptions : List ℕ) → (refused : Bool) → List ℕ → Type 0
+IsTextOf show.Events f bytes descriptions refused text = (refused ≡ false) × (text ≡ events_text f descriptions)
+IsTextOf show.EventsWithHeader f bytes descriptions refused text =
+    (refused ≡ is_refused f.order bytes) × (text ≡ header_text f.order bytes ++ events_text f descriptions)
+IsTextOf show.Dump f bytes descriptions refused text = IsTextOfPieces f (pieces_of f) refused text
+IsTextOf show.DumpByTime f bytes descriptions refused text = IsTextByTime f refused text
 
 -- the outcome of a text that could be written
 abbrev pub outcome_of : Bool → Outcome
@@ -31,14 +35,14 @@ Writes outcome.Stopped refused text old new = (n : ℕ) × Appends old new (take
 Writes how refused text old new = (how ≡ outcome_of refused) × Appends old new text
 
 -- what was written of a file that could be opened
-abbrev pub WritesOf : Show → File → (descriptions : List ℕ) → Outcome → (old new : Option (List ℕ)) → Type 0
-WritesOf what f descriptions how old new =
-    (refused : Bool) × (text : List ℕ) × IsTextOf what f descriptions refused text × Writes how refused text old new
+abbrev pub WritesOf : Show → File → (bytes descriptions : List ℕ) → Outcome → (old new : Option (List ℕ)) → Type 0
+WritesOf what f bytes descriptions how old new =
+    (refused : Bool) × (text : List ℕ) × IsTextOf what f bytes descriptions refused text × Writes how refused text old new
 
 -- What was written of the bytes of a file: the text of what it contains, or nothing, if it cannot be
 -- opened or memory runs out.
 abbrev pub Shows : Show → List ℕ → Result Outcome OpenError → (old new : Option (List ℕ)) → Type 0
-Shows what bytes (Ok how) old new = (f : File) × (opened bytes ≡ Ok f) × WritesOf what f (file_descriptions bytes) how old new
+Shows what bytes (Ok how) old new = (f : File) × (opened bytes ≡ Ok f) × WritesOf what f bytes (file_descriptions bytes) how old new
 Shows what bytes (Err e) old new = Fails e (opened bytes) × (new ≡ old)
 
 -- the exit status: 2 if the file cannot be opened, 3 if memory runs out

@@ -4,4 +4,5 @@
 
 pub mod dump;
 pub mod events;
+pub mod header;
 pub mod run;

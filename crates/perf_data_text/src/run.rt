@@ -7,6 +7,7 @@ ghost use Rattle.perf_data_text.specs.Shown as shown;
 
 use crate::dump::{text_by_time, text_of_dump};
 use crate::events::text_of_events;
+use crate::header::text_of_header;
 use perf_file::{OpenError, Recording};
 use perf_lines::outcome::Outcome;
 use perf_lines::output::write_whole;
@@ -18,6 +19,8 @@ use std::io::Write;
 pub enum Show {
     /// Its events.
     Events,
+    /// What perf states about the machine and the command, and its events.
+    EventsWithHeader,
     /// Its frames, in the order of the file.
     Dump,
     /// Its frames by time, and at equal times in the order of the file.
@@ -27,8 +30,8 @@ pub enum Show {
 /// Writes what is shown of the bytes of a file. Nothing is written before all of the text is made,
 /// and nothing at all if the file cannot be opened or memory runs out.
 ///
-/// The outcome is `Clean` if no frame was refused, `Refused` if one was, and `Stopped` if writing
-/// failed.
+/// The outcome is `Clean` if no frame and no feature was refused, `Refused` if one was, and `Stopped` if
+/// writing failed.
 pub fn run<W: Write>(
     alloc: Global,
     bytes: &[u8],
@@ -54,14 +57,14 @@ pub fn status_after(ended: &Result<Outcome, OpenError>) -> u8
     }
 }
 
-// The text of what is shown, and whether a frame is refused in it.
+// The text of what is shown, and whether a frame or a feature is refused in it.
 fn text_of(
     alloc: Global,
     recording: &Recording<'_>,
     what: Show,
 ) -> Result<(String, bool), AllocError>
     ensures { (descriptions : List ℕ) → AreDescribedBy recording.now descriptions →
-        IfOk result (λ made. shown.IsTextOf what (view recording.now) descriptions made.1
+        IfOk result (λ made. shown.IsTextOf what (view recording.now) recording.now.bytes.now descriptions made.1
         (string_bytes made.0)) }
 {
     match what {
@@ -69,12 +72,29 @@ fn text_of(
             let text = text_of_events(alloc, recording)?;
             Ok((text, false))
         }
+        Show::EventsWithHeader => {
+            let (text, refused) = text_with_header(alloc, recording)?;
+            Ok((text, refused))
+        }
         Show::Dump => text_of_dump(alloc, recording),
         Show::DumpByTime => text_by_time(alloc, recording),
     }
 }
 
-// Writes a text, in which frames are refused or not, and returns how that ended.
+// The text of what perf states about the machine and the command, and that of the events; and whether
+// a feature is refused.
+fn text_with_header(alloc: Global, recording: &Recording<'_>) -> Result<(String, bool), AllocError>
+    ensures { (descriptions : List ℕ) → AreDescribedBy recording.now descriptions →
+        IfOk result (λ made. shown.IsTextOf Show.EventsWithHeader (view recording.now)
+        recording.now.bytes.now descriptions made.1 (string_bytes made.0)) }
+{
+    let (mut text, refused) = text_of_header(alloc, recording)?;
+    let events = text_of_events(alloc, recording)?;
+    text.push_str(events.as_str())?;
+    Ok((text, refused))
+}
+
+// Writes a text, in which something is refused or not, and returns how that ended.
 fn write_text<W: Write>(writer: &mut W, text: &String, refused: bool) -> Outcome
     ensures { shown.Writes result refused (string_bytes text.now)
         (W.contents writer.old) (W.contents writer.new) }

@@ -15,3 +15,6 @@ pub mod Stepping
 pub mod IdFilling
 pub mod InMemory
 pub mod Sizes
+pub mod Strings
+pub mod FeatureCounts
+pub mod Builds

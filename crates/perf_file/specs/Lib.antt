@@ -21,3 +21,6 @@ pub mod Messages
 pub mod Filled
 pub mod Outlines
 pub mod Finders
+pub mod FeatureTable
+pub mod FeatureTexts
+pub mod BuildIds

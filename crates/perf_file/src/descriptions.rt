@@ -76,7 +76,7 @@ fn first_id(order: Dynamic, size: u32, bytes: &[u8]) -> Option<u64>
 }
 
 // The bytes before the first zero.
-fn before_zero(bytes: &[u8]) -> &[u8]
+pub fn before_zero(bytes: &[u8]) -> &[u8]
     ensures { result.now ≡ descriptions.before_zero bytes.now }
 {
     for index in 0..bytes.len() {

@@ -4,15 +4,20 @@
 
 mod apart;
 pub mod attributes;
+mod build_ids;
+mod command_line;
 pub mod deciding;
 mod descriptions;
 pub mod entries;
 mod error;
 mod event_list;
 mod events;
+mod feature;
+mod feature_table;
 mod features;
 pub mod finding;
 pub mod head;
+mod header_texts;
 pub mod id_list;
 pub mod id_place;
 mod id_sections;
@@ -29,10 +34,14 @@ mod reading;
 pub mod section;
 pub mod summary;
 
+pub use build_ids::{BuildId, BuildIds};
+pub use command_line::CommandLine;
 pub use entries::Entry;
 pub use error::{OpenError, Part};
 pub use events::Event;
+pub use feature::{BadFeature, Feature};
+pub use header_texts::SampleTimes;
 pub use listing::{FileFrame, FileFrames};
-pub use naming::EventName;
+pub use naming::{EscapedBytes, EventName};
 pub use opening::Recording;
 pub use owning::Owner;

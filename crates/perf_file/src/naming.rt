@@ -71,9 +71,10 @@ impl fmt::Display for Escaped {
     }
 }
 
-// Bytes of a name, as they are printed.
-#[derive(Copy, Clone)]
-struct EscapedBytes<'p>(&'p [u8]);
+/// Bytes of a file that are printed as text: each byte that is not printable ASCII, and each backslash,
+/// as `\x` and its two hexadecimal digits.
+#[derive(Copy, Clone, Debug)]
+pub struct EscapedBytes<'p>(pub &'p [u8]);
 
 impl fmt::Display for EscapedBytes<'_> {
     ghost output = { λ e. Some (names.name_text (names.described e.0.now)) };

@@ -22,6 +22,7 @@ use std::alloc::Global;
 /// A `perf.data` file that was opened. Its bytes stay borrowed.
 #[derive(Debug, Drop)]
 pub struct Recording<'p> {
+    pub(crate) bytes: &'p [u8],
     pub(crate) order: Dynamic,
     is_closed: bool,
     pub(crate) start: usize,
@@ -54,6 +55,7 @@ impl<'p> Recording<'p> {
         ensures exact { Gives view result (opens.opened bytes.now) }
         ensures sound { IfOk result (λ _.
             (h : Head) × (ids : List Section) × opens.IsSound bytes.now h ids) }
+        ensures bytes { IfOk result (λ r. r.bytes.now ≡ bytes.now) }
         ensures described { IfOk result (λ r. All (λ (e : Event).
             e.descriptions.now ≡ file_descriptions bytes.now) r.events.items) }
     {
@@ -63,6 +65,7 @@ impl<'p> Recording<'p> {
         let place = first_place(&events);
         let start = head.frames.start as usize;
         Ok(Recording {
+            bytes,
             order: head.order,
             is_closed: head.is_closed,
             start,

@@ -1,5 +1,6 @@
 //! The tests.
 
+mod features;
 mod files;
 mod names;
 mod opened;

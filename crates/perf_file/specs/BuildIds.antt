@@ -1,0 +1,85 @@
+-- The build ids of files that were mapped: the feature BUILD_ID, a list of records.
+use Rattle.std.specs.Prelude.{ℕ, zero, suc, ◌-◌, ◌==◌, min, Bool, true, false, List, [], ◌∷◌, length, drop, nat_lt, nat_le, slice_index, Option, Result, Ok, Err, if◌then◌else◌}
+use Rattle.perf_base.specs.Dynamic.{order_of}
+use Rattle.perf_base.specs.Layout.{slice}
+use Rattle.perf_base.specs.Order.{Order}
+use Rattle.perf_base.specs.declared.endian.Dynamic.{Dynamic}
+use Rattle.perf_file.specs.Descriptions.{before_zero}
+use Rattle.perf_file.specs.FeatureTable.{feature_of}
+use Rattle.perf_file.specs.FeatureTexts.{then_read}
+use Rattle.perf_file.specs.Numbers.{small_number}
+use Rattle.perf_file.specs.declared.build_ids.BuildId.{BuildId}
+use Rattle.perf_file.specs.declared.build_ids.BuildIds.{BuildIds}
+use Rattle.perf_file.specs.declared.feature.BadFeature.{BadFeature}
+use Rattle.perf_file.specs.declared.feature.BadFeature.TheVariants.{Short}
+use Rattle.perf_words.specs.Bits.{has_bit}
+
+-- the number of the two bytes at an offset
+abbrev pub half_number : Order → List ℕ → ℕ → ℕ
+half_number o bytes at = o.two (slice bytes at 2)
+
+-- how many bytes the record at the front takes: the last number of its header states it
+abbrev pub record_size : Order → List ℕ → ℕ
+record_size o bytes = half_number o bytes 6
+
+-- whether it is whole: the header, a process and 24 bytes, which all are there, and a path
+abbrev pub is_whole : Order → List ℕ → Bool
+is_whole o bytes =
+    if nat_lt (length bytes) 36 then false
+    else (if nat_lt (record_size o bytes) 36 then false
+    else nat_le (record_size o bytes) (length bytes))
+
+-- a build id: the `misc` of its record, a process, its bytes, and the path of the file
+pub record Build : Type 0 where
+  pub misc : ℕ
+  pub pid : ℕ
+  pub id : List ℕ
+  pub filename : List ℕ
+
+-- how many bytes it has: as many as the byte after 20 states, if `misc` has bit 15, and otherwise 20
+abbrev pub id_length : (misc stated : ℕ) → ℕ
+id_length misc stated = if has_bit misc 15 then min stated 20 else 20
+
+-- the build id in the record at the front
+abbrev pub build_in : Order → List ℕ → Build
+build_in o bytes = record {
+  misc = half_number o bytes 4;
+  pid = small_number o bytes 8;
+  id = slice bytes 12 (id_length (half_number o bytes 4) (slice_index bytes 32));
+  filename = before_zero (slice bytes 36 (record_size o bytes - 36));
+}
+
+-- a build id of the code
+abbrev pub build_of : BuildId → Build
+build_of b = record { misc = b.misc; pid = b.pid; id = b.id.now; filename = b.filename.now }
+
+-- those of at most n records, up to the first that is not whole
+unfoldable pub first_builds : Order → (n : ℕ) → List ℕ → List Build
+first_builds o zero bytes = []
+first_builds o (suc n) bytes =
+    if is_whole o bytes then build_in o bytes ∷ first_builds o n (drop (record_size o bytes) bytes)
+    else []
+
+-- those of all: there are no more than bytes
+abbrev pub builds : Order → List ℕ → List Build
+builds o bytes = first_builds o (length bytes) bytes
+
+-- whether at most n whole records take all of the bytes
+unfoldable pub are_whole : Order → (n : ℕ) → List ℕ → Bool
+are_whole o zero bytes = length bytes == 0
+are_whole o (suc n) bytes =
+    if length bytes == 0 then true
+    else (if is_whole o bytes then are_whole o n (drop (record_size o bytes) bytes)
+    else false)
+
+-- the build ids of the feature
+abbrev pub checked_builds : Order → List ℕ → Result (List Build) BadFeature
+checked_builds o bytes = if are_whole o (length bytes) bytes then Ok (builds o bytes) else Err Short
+
+-- those of a file in that order
+abbrev pub build_ids_of : Dynamic → List ℕ → Result (Option (List Build)) BadFeature
+build_ids_of order bytes = then_read (checked_builds (order_of order)) (feature_of bytes 2)
+
+-- those that are left of a list of the code
+abbrev pub builds_left : BuildIds → List Build
+builds_left list = builds (order_of list.order) list.left.now
