@@ -26,6 +26,7 @@ RETURNS = {
     "perf_event_data": "the public names",
     "perf_event_c": "the calls for C, one archive",
     "perf_text": "text that is written backward",
+    "perf_flame": "folded stacks, flame graphs",
     "perf_lines": "the text of a run",
     "perf_reports": "lines of tasks and samples, counts",
     "perf_data_text": "the text of a perf.data file",
@@ -38,7 +39,7 @@ RETURNS = {
 FACES = ("perf_event_data", "perf_event_c", "perf_file", "perf_history")
 OTHERS = {
     "Examples and measurements": ["perf_uses", "perf_bench"],
-    "Tests": ["perf_value_tests", "perf_program_tests", "perf_unit_tests", "perf_file_tests", "perf_history_tests",
+    "Tests": ["perf_value_tests", "perf_program_tests", "perf_unit_tests", "perf_file_tests", "perf_history_tests", "perf_flame_tests",
               "perf_out_of_memory", "perf_replay"],
     "What tests share": ["perf_test_inputs", "perf_test_helpers"],
 }
