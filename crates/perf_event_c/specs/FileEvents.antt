@@ -33,6 +33,7 @@ flat_event o e = record {
   event = e.0.config;
   ids_at = e.1.start;
   ids = e.1.size / 8;
+  name = record { start = 0; size = 0 };
 }
 
 -- those of a file, of which the ids are in these sections

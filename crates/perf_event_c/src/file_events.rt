@@ -43,6 +43,8 @@ pub struct FlatEvent {
     pub ids_at: u64,
     /// How many ids it has.
     pub ids: u64,
+    /// Where its name is in the file: no bytes if it was not found there.
+    pub name: Section,
 }
 
 // The numbers of an event.
@@ -55,6 +57,7 @@ fn flat_event(attr: &perf_event_attr, order: Dynamic, ids: Section) -> FlatEvent
         event: attr.config,
         ids_at: ids.start,
         ids: ids.size / 8,
+        name: Section { start: 0, size: 0 },
     }
 }
 
