@@ -1,10 +1,12 @@
 -- Names of events as places in a file, and as text in memory of the caller's.
-use Rattle.std.proofs.Common.{◌≡◌, ◌≢◌, ℕ, zero, suc, ◌+◌, ◌-◌, ◌≤◌, ◌<◌, List, [], ◌∷◌, ◌++◌, Bool, true, false, cond, map, length, get_or, set, take, drop, min, Option, Some, None, Contains, refl, sym, ap, ◌∙◌, nat_eq, nat_le, arith}
+use Rattle.std.proofs.Common.{◌≡◌, ◌≢◌, ℕ, zero, suc, ◌+◌, ◌-◌, ◌≤◌, ◌<◌, List, [], ◌∷◌, ◌++◌, Bool, true, false, cond, map, length, get_or, set, take, drop, min, Option, Some, None, Contains, All, refl, sym, ap, ◌∙◌, nat_eq, nat_le, arith}
 use Rattle.std.proofs.lemmas.Bool.{eq-eqb, eqb-true, le-leb, lt-leb}
 use Rattle.std.proofs.lemmas.List.{drop-drop, take-take, drop-take, length-take-le, length-drop, length-map, get_or-map}
+use Rattle.std.proofs.lemmas.List.Elements.{All-cons}
 use Rattle.perf_base.specs.Layout.{slice}
 use Rattle.perf_file.specs.Features.{part_in}
-use Rattle.perf_file.specs.NamePlaces.{name_at}
+use Rattle.perf_file.specs.NamePlaces.{name_at, unnamed, IsUnnamed}
+use Rattle.perf_file.specs.declared.descriptions.EventKey.{EventKey}
 use Rattle.perf_file.specs.Sections.{IsInside}
 use Rattle.perf_file.specs.declared.section.Section.{Section}
 use Rattle.perf_event_c.specs.FlatNames.{nameless, over}
@@ -50,6 +52,21 @@ moved bytes d s inside some le =
     rw (a, b, e, f) (ap (λ (xs : List ℕ). Some xs) (sym same))
 
 -- ---- events
+
+abbrev pub zero_event : FlatEvent
+zero_event = record {
+  config = record { version = 0; order = 0; sample_type = 0; read_format = 0; flags = 0; branch_sample_type = 0; sample_regs_user = 0; sample_regs_intr = 0 };
+  type_ = 0;
+  event = 0;
+  ids_at = 0;
+  ids = 0;
+  name = record { start = 0; size = 0 };
+}
+
+-- none of the keys of events has a name
+pub all_unnamed : {A : Type 0} (key : A → EventKey) (xs : List A) → All IsUnnamed (map (λ x. unnamed (key x)) xs)
+all_unnamed key [] = λ k d lt. absurd (omega (arith, lt))
+all_unnamed key (x ∷ xs) = All-cons IsUnnamed (unnamed (key x)) (map (λ y. unnamed (key y)) xs) refl (all_unnamed key xs)
 
 pub contains_map : {A B : Type 0} (f : A → B) (xs : List A) (i : ℕ) (d : A) → i < length xs → Contains (map f xs) (f (get_or xs i d))
 contains_map f xs i d lt = (i, omega (arith, lt, length-map xs f), get_or-map f xs i d (f (get_or xs i d)) lt)
