@@ -4,13 +4,16 @@ ghost use Rattle.std.specs.Prelude.{◌≡◌, ◌≢◌, ◌<◌, ◌^◌, ◌+
 ghost use Rattle.perf_base.specs.Dynamic.{order_of};
 ghost use Rattle.perf_base.specs.Layout.{slice};
 ghost use Rattle.perf_file.specs.Descriptions.{first_name, descriptions_in};
-ghost use Rattle.perf_file.specs.Features.{descriptions_of};
+ghost use Rattle.perf_file.specs.Features.{descriptions_of, file_descriptions};
 ghost use Rattle.perf_file.specs.Heads.{IsGoodHead};
 ghost use Rattle.perf_file.specs.NamePlaces as places;
-ghost use Rattle.perf_file.specs.Opened.{checked_head};
+ghost use Rattle.perf_file.specs.Names.{name_of};
+ghost use Rattle.perf_file.specs.Opened.{File, opened, checked_head};
 ghost use Rattle.perf_file.specs.Sections.{IsInside};
 ghost use Rattle.perf_file.specs.declared.error.OpenError.{OpenError};
 ghost use Rattle.perf_file.specs.declared.head.Head.{Head};
+ghost use Rattle.perf_file.specs.declared.ids.IdOfEvent.{IdOfEvent};
+ghost use Rattle.perf_event_c.specs.FileEvents.{IsRead, HaveIds};
 ghost use Rattle.perf_event_c.specs.Files.{open_code};
 ghost use Rattle.perf_event_c.specs.FlatNames as names;
 ghost use Rattle.perf_event_c.specs.declared.file_events.FlatEvent.{FlatEvent};
@@ -146,6 +149,10 @@ pub extern "C" fn ped_file_names(
 ) -> u32
     ensures named { (h : Head) → checked_head bytes.now ≡ Ok h → length found.old ≡ length all.old →
         (result ≡ 0) × names.FindsNames h bytes.now all.old all.new }
+    ensures file { (f : File) (ids : List IdOfEvent) → opened bytes.now ≡ Ok f →
+        IsRead bytes.now f all.old ids → HaveIds bytes.now all.old →
+        length found.old ≡ length all.old → map (names.flat_name bytes.now) all.new ≡
+        map (name_of f.order (file_descriptions bytes.now)) f.events }
     ensures refused { (e : OpenError) → checked_head bytes.now ≡ Err e →
         length found.old ≡ length all.old →
         (result ≡ open_code e) × (all.new ≡ all.old) × (found.new ≡ found.old) }
