@@ -20,6 +20,9 @@ IS(frame_spans, offsetof(struct ped_frame, spans) == 256);
 IS(ended_size, sizeof(struct ped_ended) == 24);
 IS(ended_how, offsetof(struct ped_ended, how) == 16);
 IS(split_end_size, sizeof(struct ped_split_end) == 8);
+IS(event_size, sizeof(struct ped_event) == 104);
+IS(event_name, offsetof(struct ped_event, name) == 88);
+IS(name_size, sizeof(struct ped_name) == 32);
 
 static int failures;
 
@@ -341,6 +344,39 @@ static void check_body(void)
           "a body under version 0");
 }
 
+static void check_name(uint32_t type, uint64_t number, uint64_t at, uint64_t size, size_t room,
+                       const char *name)
+{
+    /* a name with an escape, a backslash and a byte that is no ASCII */
+    static const uint8_t bytes[8] = {0, 'a', 'b', 27, 92, 255, 'c', 0};
+    struct ped_event event;
+    char text[80], before[80];
+    size_t count = strlen(name);
+    memset(&event, 0, sizeof event);
+    memset(text, 90, sizeof text);
+    memset(before, 90, sizeof before);
+    memcpy(before, name, count);
+    event.type = type;
+    event.event = number;
+    event.name.at = at;
+    event.name.size = size;
+    check(ped_event_name(&event, bytes, sizeof bytes, text, room) == count, name);
+    check(memcmp(text, before, sizeof text) == 0, "the name of an event, and nothing else");
+}
+
+static void check_names(void)
+{
+    check_name(1, 0, 1, 6, 80, "ab\\x1b\\x5c\\xffc");
+    check_name(1, 0, 1, 6, 9, "ab\\x1b\\x5");
+    check_name(1, 0, 1, 2, 0, "");
+    check_name(1, 0, 1, 0, 80, "cpu-clock");
+    check_name(0, 9, 1, 8, 80, "ref-cycles");
+    check_name(3, 0x10202, 0, 0, 80, "LLC-prefetch-misses");
+    check_name(3, 0x101, 0, 2, 80, "type 3 config 0x101");
+    check_name(4294967295u, 18446744073709551615u, 1, 18446744073709551615u, 80,
+               "type 4294967295 config 0xffffffffffffffff");
+}
+
 static void check_helpers(void)
 {
     /* the numbers 1 and 0x0807060504030201 */
@@ -366,6 +402,7 @@ int main(void)
     check_identifier();
     check_attributes();
     check_body();
+    check_names();
     check_helpers();
     printf("calls: %d failures\n", failures);
     return failures != 0;

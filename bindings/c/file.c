@@ -4,7 +4,7 @@
  * returned then, nothing outside the arguments may be touched (build it with sanitizers).
  *
  * file --lines file|time FILE prints what `perf_data dump --order file|time FILE` prints, if each frame is
- * of an event or perf's own, and file --lines events FILE what `perf_data events FILE` does, without names. */
+ * of an event or perf's own, and file --lines events FILE what `perf_data events FILE` does. */
 #include <stdio.h>
 #include <stdlib.h>
 #include <string.h>
@@ -61,6 +61,37 @@ static void read_entries(const uint8_t *bytes, size_t len, struct recording *rec
     } while (recording->end == PED_LIMIT);
 }
 
+/* Where the names of events are. */
+static void read_names(const uint8_t *bytes, size_t len, struct recording *recording)
+{
+    struct ped_name *names = room(recording->file.events, sizeof *names);
+    if (ped_file_names(bytes, len, recording->events, recording->file.events, names,
+                       recording->file.events - 1) != PED_FILE_OTHER_COUNT) {
+        fail("too few names are accepted");
+    }
+    if (ped_file_names(bytes, len, recording->events, recording->file.events, names,
+                       recording->file.events) != PED_FILE_READ) {
+        fail("no names are read");
+    }
+    free(names);
+}
+
+/* Prints the name of an event, which fits in no less room. */
+static void print_name(const uint8_t *bytes, size_t len, const struct ped_event *event)
+{
+    char *text = room(PED_NAME_ROOM(*event), 1), *cut;
+    size_t count = ped_event_name(event, bytes, len, text, PED_NAME_ROOM(*event));
+    cut = room(count, 1);
+    if (ped_event_name(event, bytes, len, cut, count) != count || memcmp(cut, text, count) != 0
+        || (count > 0 && (ped_event_name(event, bytes, len, cut, count - 1) != count - 1
+                          || memcmp(cut, text, count) != 0))) {
+        fail("another name in less room");
+    }
+    printf("%.*s", (int)count, text);
+    free(cut);
+    free(text);
+}
+
 static struct recording read_recording(const uint8_t *bytes, size_t len)
 {
     struct recording recording;
@@ -84,6 +115,7 @@ static struct recording read_recording(const uint8_t *bytes, size_t len)
     recording.refusal = ped_file_events(bytes, len, recording.events, recording.file.events,
                                         recording.parts, parts, recording.ids, recording.file.ids);
     if (recording.refusal == PED_FILE_READ) {
+        read_names(bytes, len, &recording);
         read_entries(bytes, len, &recording);
     }
     return recording;
@@ -194,12 +226,14 @@ static void print_line(const uint8_t *bytes, size_t len, const struct recording 
     print_answer(stdout, recording->file.order, bytes + entry->at, &frame);
 }
 
-static void print_events(const struct recording *recording)
+static void print_events(const uint8_t *bytes, size_t len, const struct recording *recording)
 {
     size_t i;
     for (i = 0; i < recording->file.events; i++) {
         const struct ped_event *event = &recording->events[i];
-        printf("%zu type=%u config=0x%llx sample_type=0x%llx ids=%llu\n", i, event->type,
+        printf("%zu ", i);
+        print_name(bytes, len, event);
+        printf(" type=%u config=0x%llx sample_type=0x%llx ids=%llu\n", event->type,
                (unsigned long long)event->event, (unsigned long long)event->config.sample_type,
                (unsigned long long)event->ids);
     }
@@ -214,7 +248,7 @@ static void print_lines(const char *which, const uint8_t *bytes, size_t len)
         fail(ped_file_message(recording.refusal));
     }
     if (strcmp(which, "events") == 0) {
-        print_events(&recording);
+        print_events(bytes, len, &recording);
         recording.count = 0;
     } else if (strcmp(which, "time") == 0) {
         ped_file_sort(recording.entries, recording.count);

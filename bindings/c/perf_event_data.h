@@ -233,7 +233,8 @@ uint32_t ped_identifier(const uint8_t *bytes, size_t len, uint32_t order, uint32
 /* ---- files that `perf record` wrote
  *
  * A file is in memory as a whole, mapped or read. ped_file_open states how much memory its events
- * need, ped_file_events reads them, ped_file_next goes over its frames in the order of the file,
+ * need, ped_file_events reads them, ped_file_names finds their names, ped_file_next goes over its frames
+ * in the order of the file,
  * ped_file_sort puts their entries in order of time, and ped_file_read reads frames, each under its own
  * event. */
 
@@ -288,6 +289,7 @@ struct ped_event {
     uint64_t event;           /* what of that type it counts: `config` of its attribute */
     uint64_t ids_at;          /* the offset in the file of its ids, numbers of eight bytes */
     uint64_t ids;             /* how many ids it has */
+    struct ped_part name;     /* where ped_file_names has found its name; size 0: it has none in the file */
 };
 
 /* An id, and the number of the event that has it. */
@@ -307,6 +309,30 @@ struct ped_id {
 uint32_t ped_file_events(const uint8_t *bytes, size_t len, struct ped_event *events,
                          size_t event_count, struct ped_part *parts, size_t part_count,
                          struct ped_id *ids, size_t id_count);
+
+/* Room for the name of an event, in which ped_file_names sorts and searches. */
+struct ped_name {
+    uint64_t kind;        /* 0, or of events without ids the type and 1 */
+    uint64_t number;      /* the first id of an event, or the config of events without ids */
+    struct ped_part name; /* where it is among the file's descriptions of events; `at` 0: not found */
+};
+
+/* Finds the names of events in a file, writes to each where its name is, and returns PED_FILE_READ.
+ * `events` are those that ped_file_events wrote for these bytes, and `names` has as many elements: with
+ * another count it returns PED_FILE_OTHER_COUNT. If the file's head is refused it returns why. Nothing is
+ * written then. */
+uint32_t ped_file_names(const uint8_t *bytes, size_t len, struct ped_event *events, size_t event_count,
+                        struct ped_name *names, size_t name_count);
+
+/* Writes the name of an event to `text`, which has room for `room` bytes, as far as there is room, and
+ * returns how many bytes it wrote, without a zero byte at the end: in ASCII, as `perf_data events` prints
+ * it. If it has none in the file, `bytes`, it is the name that perf prints for an event of the kernel's
+ * own, as "cycles", or else "type 4 config 0x1a8". PED_NAME_ROOM is always enough. */
+size_t ped_event_name(const struct ped_event *event, const uint8_t *bytes, size_t len, char *text,
+                      size_t room);
+
+/* How many bytes a name has at most: four for a byte of it in the file, or two numbers. */
+#define PED_NAME_ROOM(event) (4 * (event).name.size + 64)
 
 /* What the number of an entry is. */
 enum ped_owner {

@@ -16,6 +16,9 @@ const HEAD_BYTES = 104;
 const [ENTRY_SIZE, ENTRIES] = [16, 24];
 const LEAST_ENTRY = 80;
 const PLACE_BYTES = 16;
+// Where the head has the place of the frames, and the bits of the features; that of the descriptions of events.
+const [FRAMES, FEATURES] = [40, 72];
+const DESCRIPTIONS = 12n;
 // The types whose frames announce bytes after them that are no frames, and the width of that number.
 const ANNOUNCING = { 66: 4, 71: 8 };
 
@@ -52,11 +55,48 @@ function frontOf(bytes) {
     return bytes.subarray(0, end);
 }
 
+/** Where the descriptions of events are in a file whose frames end at `end`, or undefined if it has none. */
+function descriptionsIn(view, isLittle, end) {
+    const number = (at) => Number(view.getBigUint64(at, isLittle));
+    const bits = view.getBigUint64(FEATURES, isLittle);
+    if (number(FRAMES + 8) === 0 || !(bits >> DESCRIPTIONS & 1n)) {
+        return undefined;
+    }
+    const before = (bits & (1n << DESCRIPTIONS) - 1n).toString(2).replaceAll("0", "").length;
+    const at = end + PLACE_BYTES * before;
+    if (at + PLACE_BYTES > view.byteLength) {
+        return undefined;
+    }
+    const [start, size] = [number(at), number(at + 8)];
+    return start + size <= view.byteLength ? [start, size] : undefined;
+}
+
+/** A file with the front of another one, whose frames are eight bytes, and whose only feature is the descriptions of
+ * events: all that the library reads to find their names. Without descriptions it has no bytes. */
+function namedFront({ bytes, view, isLittle, file }) {
+    const found = descriptionsIn(view, isLittle, file.end);
+    if (found === undefined) {
+        return new Uint8Array();
+    }
+    const [start, size] = found;
+    const front = frontOf(bytes);
+    const table = front.length + 8;
+    const made = new Uint8Array(table + PLACE_BYTES + size);
+    made.set(front);
+    made.fill(0, FEATURES, HEAD_BYTES);
+    made.set(bytes.subarray(start, start + size), table + PLACE_BYTES);
+    const numbers = [[FRAMES, front.length], [FRAMES + 8, 8], [FEATURES, 2 ** Number(DESCRIPTIONS)],
+        [table, table + PLACE_BYTES], [table + 8, size]];
+    numbers.forEach(([at, number]) => viewOf(made).setBigUint64(at, BigInt(number), isLittle));
+    return made;
+}
+
 /** The bytes of a file, what the library states of it, and when they are needed its entries in order of time. */
 class Source {
     #machine;
     #ended;
     #byTime;
+    #names;
 
     constructor(machine, bytes, file) {
         this.#machine = machine;
@@ -66,6 +106,12 @@ class Source {
         this.order = file.order;
         this.isLittle = file.order !== BIG;
         this.events = machine.eventsIn(file.tables).map((event, number) => new FileEvent(this, number, event));
+    }
+
+    /** The names of its events. */
+    get names() {
+        this.#names ??= this.#machine.namesIn(namedFront(this), this.file.tables);
+        return this.#names;
     }
 
     typeAt(at) { return this.view.getUint32(at, this.isLittle); }
@@ -145,6 +191,9 @@ export class FileEvent {
         this.event = event;
         this.ids = numbersOf(source.bytes.subarray(idsAt, idsAt + 8 * ids), source.order);
     }
+
+    /** Its name, as `perf_data events` prints it. */
+    get name() { return this.#source.names[this.number]; }
 
     /** Its frames, in order of time. Those of tasks and mappings are of the first event of the file. */
     get frames() { return this.#source.frames(this.#source.entriesOf(this.number)); }

@@ -15,7 +15,11 @@ const CONFIG_BYTES = 64;
 const RESULT_BYTES = 64;
 const FILE_BYTES = 40;
 const ENTRY_BYTES = 32;
-const EVENT_BYTES = 88;
+const EVENT_BYTES = 104;
+// Where an event has its type, what of that it counts, and the size of its name; and what a name takes beside that.
+const [TYPE, EVENT, NAME_SIZE] = [56, 64, 96];
+const NAME_BYTES = 32;
+const NAME_ROOM = 64;
 const PART_BYTES = 16;
 const ID_BYTES = 16;
 // More than the 65,535 bytes of the longest frame.
@@ -154,10 +158,43 @@ export class Machine {
         const view = new DataView(events.buffer);
         return Array.from({ length: eventCount }, (_, number) => {
             const at = EVENT_BYTES * number;
-            const [event, idsAt, ids] = [64, 72, 80].map((place) => view.getBigUint64(at + place, true));
-            const [config, type] = [this.configIn(events.buffer, at), view.getUint32(at + 56, true)];
+            const [event, idsAt, ids] = [EVENT, 72, 80].map((place) => view.getBigUint64(at + place, true));
+            const [config, type] = [this.configIn(events.buffer, at), view.getUint32(at + TYPE, true)];
             return { config, type, event, idsAt: Number(idsAt), ids: Number(ids) };
         });
+    }
+
+    /** The names of events, which are in the file of these bytes; without bytes, those by their numbers. */
+    namesIn(bytes, { events, eventCount }) {
+        this.putPiece(bytes);
+        this.#tables = undefined;
+        const place = aligned(this.piece + bytes.length);
+        const names = place + events.length;
+        const text = names + NAME_BYTES * eventCount;
+        this.#needs(text);
+        new Uint8Array(this.memory.buffer, place, events.length).set(events);
+        const file = [this.piece, bytes.length].map(BigInt);
+        if (bytes.length > 0) {
+            this.calls.ped_file_names(...file, ...[place, eventCount, names, eventCount].map(BigInt));
+        }
+        return Array.from({ length: eventCount }, (_, number) => this.#nameOf(place + EVENT_BYTES * number, file, text));
+    }
+
+    /** The name of the event at a place. */
+    #nameOf(place, file, text) {
+        const room = 4 * Number(new DataView(this.memory.buffer).getBigUint64(place + NAME_SIZE, true)) + NAME_ROOM;
+        this.#needs(text + room);
+        const count = Number(this.calls.ped_event_name(BigInt(place), ...file, BigInt(text), BigInt(room)));
+        return new TextDecoder().decode(this.#copy(text, count));
+    }
+
+    /** What perf calls an event of the kernel's own, by its numbers. */
+    nameBy(type, event) {
+        const events = new Uint8Array(EVENT_BYTES);
+        const view = new DataView(events.buffer);
+        view.setUint32(TYPE, type, true);
+        view.setBigUint64(EVENT, event, true);
+        return this.namesIn(new Uint8Array(), { events, eventCount: 1 })[0];
     }
 
     /** Puts what is known of a file to its places, with a piece of that many bytes as its frames. Returns these as

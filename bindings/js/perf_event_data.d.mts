@@ -158,6 +158,9 @@ export class FileEvent {
     private constructor();
     /** Its place among the events. */
     readonly number: number;
+    /** Its name in ASCII: the one that was passed to `perf record`, or what perf calls an event of the kernel's own, or
+     * else its type and its config. */
+    readonly name: string;
     /** How its frames are read. */
     readonly config: Config;
     /** PERF_TYPE_*, and what of that type it counts: `config` of its attribute. */
@@ -201,6 +204,8 @@ export interface Library {
     /** The configuration of the event attribute at the front of bytes, and its length in bytes. Throws a RangeError, whose
      * message is a `Refusal`, if it is refused; of a file of `perf record` it says so. */
     readAttribute(bytes: Bytes, order?: Order): { config: Config; length: number };
+    /** What perf calls an event of the kernel's own by its type and its config, as "cycles", or else these numbers. */
+    eventName(type: number, event: bigint | number): string;
     /** The kernel's number of the event that wrote the frame at the front of bytes; undefined if it has none. All events must
      * have PERF_SAMPLE_IDENTIFIER, and `sampleIdAll` is whether they have that too. */
     identifier(bytes: Bytes, sampleIdAll: boolean, order?: Order): bigint | undefined;

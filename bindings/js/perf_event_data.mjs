@@ -12,7 +12,7 @@
 //
 //     const recording = ped.open(file);               // a file that `perf record` wrote
 //     for (const frame of recording.frames("time")) { // in order of time, each under its own event
-//         console.log(frame.at, frame.event?.number, frame.name, frame.fields);
+//         console.log(frame.at, frame.event?.name, frame.name, frame.fields);
 //     }
 //
 // The library is a WebAssembly module, which is in module.mjs. Its memory has room for a piece of the input and a
@@ -67,6 +67,11 @@ class Library {
             throw new RangeError(isFile(bytes) ? NO_STREAM : KINDS[kind]);
         }
         return { config: machine.takeConfig(), length: Number(machine.takeResult()) };
+    }
+
+    /** What perf calls an event of the kernel's own, or else its type and its config. */
+    eventName(type, event) {
+        return this.#machine.nameBy(type, BigInt(event));
     }
 
     /** The kernel's number of the event that wrote the frame at the front of bytes, or undefined. */

@@ -39,10 +39,17 @@ function fileLine(index, frame) {
 
 const linesOf = (frames) => Array.from(frames, (frame, index) => fileLine(index, frame));
 
-/** The line of `perf_data events`, without the name. */
-function eventLine({ number, type, event, config, ids }) {
+/** The line of `perf_data events`. */
+function eventLine({ number, name, type, event, config, ids }) {
     const [what, fields] = [event, config.sample_type].map((it) => it.toString(16));
-    return `${number} type=${type} config=0x${what} sample_type=0x${fields} ids=${ids.length}`;
+    return `${number} ${name} type=${type} config=0x${what} sample_type=0x${fields} ids=${ids.length}`;
+}
+
+/** The file without bits of features. */
+function withoutFeatures(bytes) {
+    const copy = bytes.slice();
+    copy.fill(0, 72, 104);
+    return copy;
 }
 
 function compareLines() {
@@ -50,9 +57,11 @@ function compareLines() {
     compare("text of examples/events.dump", DUMP, linesOf(recording.frames("file")));
     compare("text of examples/events.time", TIME, linesOf(recording.frames("time")));
     compare("the order without a word is that of time", TIME, linesOf(recording.frames()));
-    const words = EVENTS.map((text) => text.split(" "));
-    compare("text of examples/events.events", words.map((it) => [it[0], ...it.slice(-4)].join(" ")),
-        recording.events.map(eventLine));
+    compare("text of examples/events.events", EVENTS, recording.events.map(eventLine));
+    compare("the same by the file without its descriptions", ["0 task-clock", "1 page-faults", "2 context-switches"],
+        ped.open(withoutFeatures(data)).events.map(({ number, name }) => `${number} ${name}`));
+    compare("names by numbers", ["ref-cycles", "LLC-prefetch-misses", "type 4 config 0x1a8"],
+        [[0, 9], [3, 0x10202n], [4, 0x1a8]].map((numbers) => ped.eventName(...numbers)));
     for (const event of recording.events) {
         const own = TIME.filter((text) => ownerIn(text) === String(event.number)).map(withoutNumber);
         compare(`frames of event ${event.number}`, own, linesOf(event.frames).map(withoutNumber));

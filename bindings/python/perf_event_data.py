@@ -209,7 +209,7 @@ class _File(ctypes.Structure):
 
 class _FileEvent(ctypes.Structure):
     _fields_ = [("config", Config), ("type", ctypes.c_uint32), ("event", ctypes.c_uint64),
-                ("ids_at", ctypes.c_uint64), ("ids", ctypes.c_uint64)]
+                ("ids_at", ctypes.c_uint64), ("ids", ctypes.c_uint64), ("name", _Part)]
 
 
 _ENTRY = struct.Struct("=QQQII")  # an entry: time, offset, number and owner, and four bytes that are not used
@@ -239,6 +239,9 @@ def _load() -> ctypes.PyDLL:
     file, place = ctypes.POINTER(_File), ctypes.c_void_p
     library.ped_file_open.argtypes = [pointer, size, file]
     library.ped_file_events.argtypes = [pointer, size, place, size, place, size, place, size]
+    library.ped_file_names.argtypes = [pointer, size, place, size, place, size]
+    library.ped_event_name.argtypes = [place, pointer, size, place, size]
+    library.ped_event_name.restype = size
     library.ped_file_next.argtypes = [file, pointer, size, place, size, place, size, pointer, place]
     library.ped_file_sort.argtypes, library.ped_file_sort.restype = [place, size], None
     library.ped_file_read.argtypes = [file, pointer, size, place, size, place, size, place, size]
@@ -570,23 +573,24 @@ class FileFrames(Frames):
 
 
 class Event:
-    """An event of a file: its place among them, its configuration, the type (PERF_TYPE_*) and the number of what
-    it counts (`config` of its attribute), and the ids by which frames name it."""
+    """An event of a file: its place among them, its name as `perf_data events` prints it, its configuration, the type
+    (PERF_TYPE_*) and the number of what it counts (`config` of its attribute), and the ids by which frames name it."""
 
-    __slots__ = "_recording", "number", "config", "type", "event", "ids"
+    __slots__ = "_recording", "number", "name", "config", "type", "event", "ids"
     number: int
+    name: str
     config: Config
     type: int
     event: int
     ids: tuple[int, ...]
 
-    def __init__(self, recording: Recording, number: int, config: Config, type: int, event: int,
+    def __init__(self, recording: Recording, number: int, name: str, config: Config, type: int, event: int,
                  ids: tuple[int, ...]) -> None:
-        self._recording, self.number, self.config, self.type, self.event = recording, number, config, type, event
-        self.ids = ids
+        self._recording, self.number, self.name, self.config = recording, number, name, config
+        self.type, self.event, self.ids = type, event, ids
 
     def __repr__(self) -> str:
-        return f"<Event {self.number}: type {self.type}, event {self.event:#x}, {len(self.ids)} ids>"
+        return f"<Event {self.number}: {self.name}, {len(self.ids)} ids>"
 
     @property
     def frames(self) -> FileFrames:
@@ -617,6 +621,8 @@ class Recording:
                                                                 for it in counts[1:]]
         self._ids = rooms[1]
         self._accept(_library.ped_file_events(*self._bytes, self._events, events, rooms[0], parts, self._ids, ids))
+        names = ctypes.create_string_buffer(32 * max(events, 1))
+        self._accept(_library.ped_file_names(*self._bytes, self._events, events, names, events))
         self.order, self.is_closed = self._file.order, bool(self._file.is_closed)
         self.events = [self._event(number, event) for number, event in enumerate(self._events[:events])]
         self._entries, how, self._taken = self._read_entries()
@@ -647,7 +653,10 @@ class Recording:
         ids = array("Q", self.data[event.ids_at:event.ids_at + 8 * event.ids].tobytes())
         if (self.order == BIG) != (sys.byteorder == "big"):
             ids.byteswap()
-        return Event(self, number, Config.from_buffer_copy(event.config), event.type, event.event, tuple(ids))
+        name = ctypes.create_string_buffer(4 * event.name.size + 64)  # four for a byte of it, or two numbers
+        length = _library.ped_event_name(ctypes.addressof(event), *self._bytes, name, len(name))
+        return Event(self, number, name.raw[:length].decode("ascii"), Config.from_buffer_copy(event.config), event.type,
+                     event.event, tuple(ids))
 
     def _read_entries(self) -> tuple[bytearray, int, int]:
         """Returns the entries of all frames in the order of the file, how that ended, and where."""

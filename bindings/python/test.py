@@ -435,9 +435,8 @@ def compare_file(text, path, recording):
     dump, times, events = (path.with_suffix(it).read_text().splitlines() for it in (".dump", ".time", ".events"))
     compare(f"frames of {text}", dump, lines_of(recording.frames("file")))
     compare(f"frames of {text} by time", times, lines_of(recording.frames("time")))
-    form = "{0.number} type={0.type} config={0.event:#x} sample_type={0.config.sample_type:#x} ids={1}"
-    found = [form.format(event, len(event.ids)) for event in recording.events]
-    compare(f"events of {text}", [" ".join([it[0], *it[-4:]]) for it in map(str.split, events)], found)
+    form = "{0.number} {0.name} type={0.type} config={0.event:#x} sample_type={0.config.sample_type:#x} ids={1}"
+    compare(f"events of {text}", events, [form.format(event, len(event.ids)) for event in recording.events])
     for event in recording.events:
         owned = [it.split(" ", 1)[1] for it in times if it.split()[2] == str(event.number)]
         compare(f"frames of {event} of {text}", owned, [it.split(" ", 1)[1] for it in lines_of(event.frames)])
@@ -465,7 +464,7 @@ def try_frames_of_a_file():
     check("the last frame by its index, and a slice", lines_of(frames[-1:]) == lines_of([frames[89]])
           and (frames[-1].at, len(frames[5:]), frames.taken, frames.end) == (8320, 85, 8328, "done"))
     check("what is shown of a file", (repr(recording), repr(recording.events[1]), repr(frames)) == (
-        "<Recording: 3 events, 90 frames>", "<Event 1: type 1, event 0x2, 4 ids>", "<FileFrames: 90, end 'done'>"))
+        "<Recording: 3 events, 90 frames>", "<Event 1: page-faults/period=7,call-graph=fp/, 4 ids>", "<FileFrames: 90, end 'done'>"))
     refuses("another order of frames is refused", lambda: recording.frames("size"))
 
 

@@ -74,6 +74,16 @@ pub(crate) struct Event {
     pub(crate) event: u64,
     pub(crate) ids_at: u64,
     pub(crate) ids: u64,
+    pub(crate) name: Part,
+}
+
+/// Room for the name of an event: `struct ped_name`.
+#[repr(C)]
+#[derive(Copy, Clone, Debug, Default)]
+pub(crate) struct Name {
+    kind: u64,
+    number: u64,
+    name: Part,
 }
 
 /// An id, and the number of its event: `struct ped_id`.
@@ -141,7 +151,8 @@ compile_error!(
 const _: () = assert!(std::mem::size_of::<Config>() == 56);
 const _: () = assert!(std::mem::size_of::<Frame>() == 320);
 const _: () = assert!(std::mem::size_of::<File>() == 40);
-const _: () = assert!(std::mem::size_of::<Event>() == 88);
+const _: () = assert!(std::mem::size_of::<Event>() == 104);
+const _: () = assert!(std::mem::size_of::<Name>() == 32);
 const _: () = assert!(std::mem::size_of::<Entry>() == 32);
 
 extern "C" {
@@ -176,6 +187,23 @@ extern "C" {
         ids: *mut Id,
         id_count: usize,
     ) -> u32;
+
+    fn ped_file_names(
+        bytes: *const u8,
+        len: usize,
+        events: *mut Event,
+        event_count: usize,
+        names: *mut Name,
+        name_count: usize,
+    ) -> u32;
+
+    fn ped_event_name(
+        event: *const Event,
+        bytes: *const u8,
+        len: usize,
+        text: *mut u8,
+        room: usize,
+    ) -> usize;
 
     fn ped_file_next(
         file: *const File,
@@ -276,6 +304,20 @@ impl<'p> Opened<'p> {
                 ids.len(),
             )
         };
+        if refusal == 0 {
+            let mut names = vec![Name::default(); events.len()];
+            // SAFETY: as before.
+            unsafe {
+                ped_file_names(
+                    bytes.as_ptr(),
+                    bytes.len(),
+                    events.as_mut_ptr(),
+                    events.len(),
+                    names.as_mut_ptr(),
+                    names.len(),
+                );
+            }
+        }
         match refusal {
             0 => Ok(Self {
                 bytes,
@@ -313,6 +355,24 @@ impl<'p> Opened<'p> {
         };
         (end == WRITTEN).then_some(entry)
     }
+}
+
+/// The name of an event of a file with these bytes.
+pub(crate) fn event_name(event: &Event, bytes: &[u8]) -> String {
+    // four for a byte of the name, and enough for two numbers
+    let mut text = vec![0; 4 * event.name.size as usize + 64];
+    // SAFETY: as in `read`.
+    let len = unsafe {
+        ped_event_name(
+            event,
+            bytes.as_ptr(),
+            bytes.len(),
+            text.as_mut_ptr(),
+            text.len(),
+        )
+    };
+    text.truncate(len);
+    String::from_utf8_lossy(&text).into_owned()
 }
 
 /// Sorts entries by time, and at equal times by their offsets.

@@ -121,11 +121,19 @@ impl Error for OpenError {}
 pub struct Event {
     ty: u32,
     event: u64,
+    name: String,
     config: ParseConfig<Dynamic>,
     ids: Vec<u64>,
 }
 
 impl Event {
+    /// Returns its name in ASCII, as `perf_data events` prints it: the one that was passed to
+    /// `perf record`, or what perf prints for an event of the kernel's own, or else its type and
+    /// its config.
+    pub fn name(&self) -> &str {
+        &self.name
+    }
+
     /// Returns the kind of event, `PERF_TYPE_*`.
     pub fn ty(&self) -> u32 {
         self.ty
@@ -161,6 +169,7 @@ impl Event {
         Self {
             ty: event.type_,
             event: event.event,
+            name: ffi::event_name(event, bytes),
             config: ParseConfig::<Native>::from(attr).with_endian(order),
             ids: ids
                 .take(event.ids as usize)

@@ -99,10 +99,13 @@ fn events_are_those_that_perf_printed() {
         assert_eq!(recording.events().len(), expected.len());
         for (event, expected) in recording.events().iter().zip(expected) {
             let sample_type = event.config().sample_type().bits();
-            let (ty, number, ids) = (event.ty(), event.event(), event.ids().len());
-            let found =
-                format!(" type={ty} config={number:#x} sample_type={sample_type:#x} ids={ids}");
-            assert!(expected.ends_with(&found), "{found} is not {expected}");
+            let (name, ty, number) = (event.name(), event.ty(), event.event());
+            let ids = event.ids().len();
+            let found = format!(
+                "{name} type={ty} config={number:#x} sample_type={sample_type:#x} ids={ids}"
+            );
+            let (_, expected) = expected.split_once(' ').unwrap();
+            assert_eq!(found, expected);
         }
     }
 }

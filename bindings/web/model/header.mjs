@@ -1,10 +1,9 @@
-// What perf states about a recording beside its frames: names of its events, the machine, and the command.
+// What perf states about a recording beside its frames: the machine, and the command.
 //
 // The library has opened the file before, so its head is whole; the table of features after the data may still lie, and
 // what it states outside the file is left out.
 
 import { viewOf } from "../../js/config.mjs";
-import { kernelName } from "./event_names.mjs";
 import { textOf } from "./text.mjs";
 
 const FEATURE_BITS = 72;
@@ -13,7 +12,6 @@ const TEXTS = { hostname: 3, osRelease: 4, perfVersion: 5, architecture: 6, proc
 const PROCESSORS = 7;
 const MEMORY = 10;
 const COMMAND_LINE = 11;
-const EVENT_DESC = 12;
 // The most bytes of a text and the most words of the command that are shown.
 const MOST = 10000;
 
@@ -43,8 +41,6 @@ class Words {
         const at = this.#take(8);
         return at === undefined ? undefined : this.view.getBigUint64(at, this.isLittle);
     }
-
-    skip(length) { this.at += length; }
 
     /** A length and that many bytes: the text before the first zero byte. */
     text() {
@@ -94,29 +90,7 @@ function commandLine(words) {
     return parts.join(" ");
 }
 
-/** The descriptions of events: of each its name, its first id, its type and its config. */
-function descriptionsOf(words) {
-    const [count, size] = [words.u32(), words.u32()];
-    const found = [];
-    while (size >= 64 && found.length < count) {
-        const from = words.at;
-        const type = words.u32();
-        words.u32();
-        const config = words.u64();
-        words.at = from + size;
-        const ids = words.u32();
-        const name = words.text();
-        const id = ids > 0 ? words.u64() : undefined;
-        words.skip(8 * (ids > 0 ? ids - 1 : 0));
-        if (words.isCut) {
-            break;
-        }
-        found.push({ type, config, id, name });
-    }
-    return found;
-}
-
-/** What the features state: texts, and `descriptions` of events. */
+/** What the features state, as texts. */
 export function headerOf(bytes, isLittle) {
     const features = featuresOf(bytes, isLittle);
     const read = (number, call) => features.has(number) ? call(new Words(features.get(number), isLittle)) : undefined;
@@ -133,25 +107,7 @@ export function headerOf(bytes, isLittle) {
         return kilobytes === undefined ? undefined : `${kilobytes} kB`;
     });
     header.commandLine = read(COMMAND_LINE, commandLine);
-    return { header, descriptions: read(EVENT_DESC, descriptionsOf) ?? [] };
-}
-
-/** Gives events their names: of the first description of its first id, or of its type and config if it has no ids. */
-export class EventNames {
-    #names = new Map();
-
-    constructor(descriptions) {
-        for (const { type, config, id, name } of descriptions) {
-            const key = id ?? `${type} ${config}`;
-            if (!this.#names.has(key)) {
-                this.#names.set(key, name);
-            }
-        }
-    }
-
-    nameOf({ type, event, ids }) {
-        return this.#names.get(ids.length > 0 ? ids[0] : `${type} ${event}`) || kernelName(type, event);
-    }
+    return header;
 }
 
 /** The period of events whose samples have none: of the attribute's own, `sample_period`. */

@@ -1,7 +1,7 @@
 // Opens the bytes of a recording by the library: a file of `perf record`, or a stream with its attribute in front.
 
 import { isFile, viewOf } from "../../js/config.mjs";
-import { EventNames, headerOf, ownPeriod } from "./header.mjs";
+import { headerOf, ownPeriod } from "./header.mjs";
 
 /** The place in the head of a file of the size of an attribute's entry, and of where the attributes are. */
 const ENTRY_SIZE = 16;
@@ -14,11 +14,10 @@ function number(bytes, at, isLittle) {
 function openFile(library, ped, bytes) {
     const file = ped.open(bytes);
     const isLittle = file.order === library.LITTLE;
-    const { header, descriptions } = headerOf(bytes, isLittle);
-    const names = new EventNames(descriptions);
+    const header = headerOf(bytes, isLittle);
     const [size, first] = [number(bytes, ENTRY_SIZE, isLittle), number(bytes, ATTRIBUTES, isLittle)];
     const events = file.events.map((event, index) => ({
-        index, name: names.nameOf(event), type: event.type, config: event.event, reading: event.config,
+        index, name: event.name, type: event.type, config: event.event, reading: event.config,
         ownPeriod: ownPeriod(bytes, first + size * index, isLittle),
     }));
     return {
@@ -50,7 +49,7 @@ function openStream(library, ped, bytes, orders) {
         bytes, header: {}, kind: "stream", order: isLittle ? "little" : "big", isClosed: true,
         frames: ped.stream(bytes, config, { start: length }),
         events: [{
-            index: 0, name: new EventNames([]).nameOf({ type, event, ids: [] }), type, config: event, reading: config,
+            index: 0, name: ped.eventName(type, event), type, config: event, reading: config,
             ownPeriod: ownPeriod(bytes, 0, isLittle),
         }],
     };

@@ -3,8 +3,8 @@ use Rattle.std.proofs.Common.{◌≡◌, ℕ, ◌+◌, ◌<◌, List, [], ◌∷
 use Rattle.std.specs.List.{All}
 use Rattle.std.proofs.lemmas.List.{take_more, length-take-le}
 use Rattle.std.proofs.lemmas.List.Elements.{All-head, All-tail}
-use Rattle.perf_base.specs.Configured.{endian_of}
 use Rattle.perf_base.specs.declared.endian.Dynamic.{Dynamic}
+use Rattle.perf_file.specs.Names.{name_view, name_of, name_text}
 use Rattle.perf_file.specs.Opened.{event_view}
 use Rattle.perf_file.specs.declared.events.Event.{Event}
 use Rattle.perf_data_text.specs.EventText.{name_in, event_line, event_lines}
@@ -30,14 +30,12 @@ own_more events i e below is =
     ∙ ap (λ k. own_line k (get_or events i e)) n
     ∙ ap (own_line i) (sym is))
 
--- the lines of events that have these descriptions, in that order
-pub named_alike : (order : Dynamic) (descriptions : List ℕ) (first : ℕ) (events : List Event) → All (λ (e : Event). endian_of e.config ≡ order) events
-    → All (λ (e : Event). e.descriptions.now ≡ descriptions) events → own_lines first events ≡ event_lines order descriptions first (map event_view events)
-named_alike order descriptions first [] o d = refl
-named_alike order descriptions first (e ∷ es) o d =
-    let there : own_name e ≡ name_in order descriptions (event_view e) =
-    ap (λ (r : Dynamic). name_in r e.descriptions.now (event_view e)) (All-head (λ (e : Event). endian_of e.config ≡ order) e es o)
-    ∙ ap (λ s. name_in order s (event_view e)) (All-head (λ (e : Event). e.descriptions.now ≡ descriptions) e es d) in
+-- the lines of events that have the names by these descriptions
+pub named_alike : (order : Dynamic) (descriptions : List ℕ) (first : ℕ) (events : List Event) → All (λ (e : Event). name_view e.name ≡ name_of order descriptions (event_view e)) events
+    → own_lines first events ≡ event_lines order descriptions first (map event_view events)
+named_alike order descriptions first [] d = refl
+named_alike order descriptions first (e ∷ es) d =
+    let there : own_name e ≡ name_in order descriptions (event_view e) = ap name_text (All-head (λ (e : Event). name_view e.name ≡ name_of order descriptions (event_view e)) e es d) in
     ap (λ name. event_line first name (event_view e) ++ own_lines (first + 1) es) there
     ∙ ap (λ rest. event_line first (name_in order descriptions (event_view e)) (event_view e) ++ rest)
-    (named_alike order descriptions (first + 1) es (All-tail (λ (e : Event). endian_of e.config ≡ order) e es o) (All-tail (λ (e : Event). e.descriptions.now ≡ descriptions) e es d))
+    (named_alike order descriptions (first + 1) es (All-tail (λ (e : Event). name_view e.name ≡ name_of order descriptions (event_view e)) e es d))

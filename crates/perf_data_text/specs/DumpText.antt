@@ -5,13 +5,13 @@ use Rattle.std.specs.List.Sorted.{IsPermutation, IsSortedByKey}
 use Rattle.perf_base.specs.Configuration.{Configuration}
 use Rattle.perf_base.specs.Dynamic.{order_of}
 use Rattle.perf_base.specs.Order.{Order}
-use Rattle.perf_lines.specs.FileText.{Words, words_of, header_seen, file_line}
+use Rattle.perf_lines.specs.FileText.{Words, words_of, file_line}
 use Rattle.perf_lines.specs.declared.line.file.FrameEvent.{FrameEvent}
 use Rattle.perf_lines.specs.declared.line.file.FrameEvent.TheVariants as event
 use Rattle.perf_file.specs.Entries.{config_of, time_of, by_time_then_place}
 use Rattle.perf_file.specs.Opened.{File}
 use Rattle.perf_file.specs.Payloads.{has_payload}
-use Rattle.perf_file.specs.Pieces.{Piece, pieces_of, piece_at}
+use Rattle.perf_file.specs.Pieces.{Piece, header_seen, pieces_of, piece_at}
 use Rattle.perf_file.specs.declared.entries.Entry.{Entry}
 use Rattle.perf_file.specs.declared.owning.Owner.{Owner}
 use Rattle.perf_file.specs.declared.owning.Owner.TheVariants as owner

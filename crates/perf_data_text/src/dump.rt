@@ -9,6 +9,7 @@ ghost use Rattle.perf_data_text.specs.DumpText as dumps;
 
 use perf_base::ParseConfig;
 use perf_base::endian::Dynamic;
+use perf_file::listing::header_of;
 use perf_file::{Entry, FileFrame, Owner, Recording};
 use perf_lines::line::file::{FrameEvent, FrameLine, push_file_line};
 use std::alloc::{AllocError, Global};
@@ -118,6 +119,7 @@ fn push_frame(
         at: found.at,
         event: event_of(found.owner),
         config: config_of(recording, found.owner),
+        header: header_of(&found.frame),
         frame: found.frame,
         has_payload: recording.has_payload(found),
     };

@@ -36,7 +36,7 @@ use Rattle.perf_event_c.specs.declared.file_events.FlatEvent.{FlatEvent}
 
 -- ---- the file
 
-bind_ok : {A B : Type 0} (r : Result A OpenError) (k : A → Result B OpenError) (y : B) → (r >>= k) ≡ Ok y → (x : A) × (r ≡ Ok x) × (k x ≡ Ok y)
+pub bind_ok : {A B : Type 0} (r : Result A OpenError) (k : A → Result B OpenError) (y : B) → (r >>= k) ≡ Ok y → (x : A) × (r ≡ Ok x) × (k x ≡ Ok y)
 bind_ok (Ok x) k y is = (x, refl, is)
 bind_ok (Err e) k y is = absurd (cc)
 
@@ -55,7 +55,7 @@ pub record IsPlaced (bytes : List ℕ) (h : Head) (f : File) : Type 0 where
   pub frames : f.frames ≡ slice bytes h.frames.start h.frames.size
   pub inside : is_inside bytes h.frames ≡ true
 
-of_head : (bytes : List ℕ) (h : Head) (f : File) → checked_head bytes ≡ Ok h → (events_in bytes h >>= λ es. checked_events es >>= λ found. Ok (file_with bytes h es)) ≡ Ok f → IsPlaced bytes h f
+pub of_head : (bytes : List ℕ) (h : Head) (f : File) → checked_head bytes ≡ Ok h → (events_in bytes h >>= λ es. checked_events es >>= λ found. Ok (file_with bytes h es)) ≡ Ok f → IsPlaced bytes h f
 of_head bytes h f is made =
     let a = bind_ok (events_in bytes h) (λ es. checked_events es >>= λ found. Ok (file_with bytes h es)) f made in
     let b = bind_ok (checked_events a.0) (λ found. Ok (file_with bytes h a.0)) f a.2 in

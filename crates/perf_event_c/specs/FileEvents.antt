@@ -1,6 +1,6 @@
 -- The events of a `perf.data` file as plain numbers.
-use Rattle.std.specs.Prelude.{◌≡◌, ℕ, ◌+◌, ◌/◌, ◌==◌, ◌&&◌, Bool, true, nat_lt, List, [], ◌∷◌, length, map, drop, Option, None, Result, Ok, Err, if◌then◌else◌}
-use Rattle.std.specs.List.{zip}
+use Rattle.std.specs.Prelude.{◌≡◌, ℕ, ◌+◌, ◌*◌, ◌≤◌, ◌/◌, ◌==◌, ◌&&◌, Bool, true, nat_lt, List, [], ◌∷◌, length, map, drop, Option, None, Result, Ok, Err, if◌then◌else◌}
+use Rattle.std.specs.List.{zip, All}
 use Rattle.std.specs.List.Sorted.{IsPermutation}
 use Rattle.perf_base.specs.Dynamic.{order_of}
 use Rattle.perf_base.specs.Layout.{words_of}
@@ -33,6 +33,7 @@ flat_event o e = record {
   event = e.0.config;
   ids_at = e.1.start;
   ids = e.1.size / 8;
+  name = record { start = 0; size = 0 };
 }
 
 -- those of a file, of which the ids are in these sections
@@ -80,6 +81,10 @@ pub record IsRead (bytes : List ℕ) (f : File) (events : List FlatEvent) (ids :
   pub all : map (stated (order_of f.order) bytes) events ≡ map (numbers_of f.order) f.events
   pub same : IsPermutation (table_of f.events) ids
   pub table : IsTableOf f ids
+
+-- the ids of all events end inside the file
+abbrev pub HaveIds : List ℕ → List FlatEvent → Type 0
+HaveIds bytes events = All (λ (e : FlatEvent). e.ids_at + 8 * e.ids ≤ length bytes) events
 
 -- the events of the file are read, or its refusal is returned
 abbrev pub ReadsFile : List ℕ → Result File OpenError → Result (Unit {0}) OpenError → List FlatEvent → List IdOfEvent → Type 0

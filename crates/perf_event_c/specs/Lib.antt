@@ -3,4 +3,5 @@ pub mod Ends
 pub mod Files
 pub mod Entries
 pub mod FileEvents
+pub mod FlatNames
 pub mod EntryReads

@@ -4,14 +4,13 @@ ghost use Rattle.std.specs.Prelude.{◌≡◌, ◌≢◌, Err};
 ghost use Rattle.perf_file.specs.Opened.{opened};
 ghost use Rattle.perf_file.specs.Outlines.{outline};
 ghost use Rattle.perf_file.specs.declared.error.OpenError.{OpenError};
-ghost use Rattle.perf_flat.specs.FlatConfigs as flat;
 ghost use Rattle.perf_event_c.specs.Files as files;
 
 use perf_base::ErrorKind;
-use perf_base::endian::Dynamic;
 use perf_file::section::Section;
 use perf_file::summary::{Outline, outline_of};
 use perf_file::{OpenError, Part};
+use perf_flat::config::order_code;
 use std::alloc::Global;
 
 /// What is known of a file before its events are read.
@@ -28,16 +27,6 @@ pub struct FlatFile {
     pub events: u64,
     /// How many ids they have together.
     pub ids: u64,
-}
-
-// A byte order as a number.
-fn order_code(order: Dynamic) -> u32
-    ensures { result ≡ flat.order_code order }
-{
-    match order {
-        Dynamic::Little => 0,
-        Dynamic::Big => 1,
-    }
 }
 
 // A part that ends beyond the file, as a number.

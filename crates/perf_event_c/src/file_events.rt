@@ -1,10 +1,10 @@
 //! The events of a `perf.data` file.
 
-ghost use Rattle.std.specs.Prelude.{◌≡◌, ◌+◌, ◌≤◌, Ok, Err, true, false, length};
+ghost use Rattle.std.specs.Prelude.{◌≡◌, ◌+◌, ◌≤◌, Ok, Err, OnOk, true, false, length};
 ghost use Rattle.perf_file.specs.Filled.{Fills};
 ghost use Rattle.perf_file.specs.Heads.{IsGoodHead};
 ghost use Rattle.perf_file.specs.IdSections.{entry_count};
-ghost use Rattle.perf_file.specs.Opened.{opened, checked_head};
+ghost use Rattle.perf_file.specs.Opened.{File, opened, checked_head};
 ghost use Rattle.perf_file.specs.Outlines as outlines;
 ghost use Rattle.perf_file.specs.declared.error.OpenError.{OpenError};
 ghost use Rattle.perf_file.specs.declared.summary.Outline.{Outline};
@@ -43,6 +43,8 @@ pub struct FlatEvent {
     pub ids_at: u64,
     /// How many ids it has.
     pub ids: u64,
+    /// Where its name is in the file: no bytes if it was not found there.
+    pub name: Section,
 }
 
 // The numbers of an event.
@@ -55,6 +57,7 @@ fn flat_event(attr: &perf_event_attr, order: Dynamic, ids: Section) -> FlatEvent
         event: attr.config,
         ids_at: ids.start,
         ids: ids.size / 8,
+        name: Section { start: 0, size: 0 },
     }
 }
 
@@ -138,7 +141,8 @@ fn read_events(
     requires events_room { length all.old ≡ entry_count head }
     requires parts_room { length parts.old ≡ 3 + entry_count head }
     requires ids_room { outlines.counted_ids bytes.now head ≡ Ok (length ids.old) }
-    ensures { events.ReadsFile bytes.now (opened bytes.now) result all.new ids.new }
+    ensures file { events.ReadsFile bytes.now (opened bytes.now) result all.new ids.new }
+    ensures inside { OnOk result (events.HaveIds bytes.now all.new) }
 {
     read_parts(bytes, head, parts)?;
     fill_events(alloc, bytes, head, &parts[3..], all)?;
@@ -172,6 +176,9 @@ pub extern "C" fn ped_file_events(
     ensures opened { (o : Outline) → outlines.outline bytes.now ≡ Ok o →
         events.has_room o (length all.old) (length parts.old) (length ids.old) ≡ true →
         events.ReadsEvents bytes.now (opened bytes.now) result all.new ids.new }
+    ensures inside { (o : Outline) (f : File) → outlines.outline bytes.now ≡ Ok o →
+        events.has_room o (length all.old) (length parts.old) (length ids.old) ≡ true →
+        opened bytes.now ≡ Ok f → events.HaveIds bytes.now all.new }
     ensures other { (o : Outline) → outlines.outline bytes.now ≡ Ok o →
         events.has_room o (length all.old) (length parts.old) (length ids.old) ≡ false →
         (result ≡ OTHER_COUNT) × (all.new ≡ all.old) × (parts.new ≡ parts.old)

@@ -7,9 +7,11 @@
 pub mod attr;
 pub mod body;
 pub mod ends;
+pub mod event_name;
 pub mod file;
 pub mod file_entries;
 pub mod file_events;
+pub mod file_names;
 pub mod file_read;
 pub mod identifier;
 pub mod many;

@@ -8,7 +8,7 @@ pub mod AttributeLaws
 pub mod Whole
 pub mod Laws
 pub mod EntryLaws
-pub mod Describing
+pub mod NamePlacing
 pub mod IdLaw
 pub mod Joined
 pub mod Stepping

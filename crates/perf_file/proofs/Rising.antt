@@ -14,7 +14,7 @@ Rises xs = IsNonDecreasingBy (λ (e : IdOfEvent). e.id) xs
 abbrev NoneBefore : List IdOfEvent → ℕ → ℕ → Type 0
 NoneBefore xs i id = (k : ℕ) (d : IdOfEvent) → k < i → k < length xs → (get_or xs k d).id ≢ id
 
-unequal : (a b : ℕ) → a ≢ b → nat_eq a b ≡ false
+pub unequal : (a b : ℕ) → a ≢ b → nat_eq a b ≡ false
 unequal a b off = go (nat_eq a b) refl
   where
     go : (c : Bool) → nat_eq a b ≡ c → nat_eq a b ≡ false

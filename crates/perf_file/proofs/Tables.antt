@@ -25,7 +25,7 @@ split x xs e h = split_at x xs e h.0 h.1 h.2
 nothing_in : (e : IdOfEvent) → Contains [] e → ⊥
 nothing_in e h = absurd (omega (arith, h.1))
 
-differ : (a b : ℕ) → nat_eq a b ≡ false → a ≡ b → ⊥
+pub differ : (a b : ℕ) → nat_eq a b ≡ false → a ≡ b → ⊥
 differ a b off is = let yes : nat_eq a b ≡ true = eq-eqb a b is in absurd (cc)
 
 made_of : (x : IdOfEvent) (id n : ℕ) → x.id ≡ id → x.event ≡ n → x ≡ pair id n

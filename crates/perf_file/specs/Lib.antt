@@ -11,6 +11,7 @@ pub mod Opened
 pub mod KernelNames
 pub mod Descriptions
 pub mod Names
+pub mod NamePlaces
 pub mod Views
 pub mod Owners
 pub mod Pieces

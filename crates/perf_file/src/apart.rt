@@ -8,7 +8,7 @@ ghost use Rattle.perf_file.specs.Sections.{are_apart, ShareNothing, IsSmall};
 use crate::section::Section;
 
 // Whether none of these, which begin in rising order, shares a byte with another.
-pub fn sorted_are_apart(sections: &[Section]) -> bool
+pub(crate) fn sorted_are_apart(sections: &[Section]) -> bool
     requires small { All IsSmall sections.now }
     requires sorted { IsNonDecreasingBy (λ (s : Section). s.start) sections.now }
     ensures value { result ≡ are_apart sections.now }
@@ -27,7 +27,7 @@ pub fn sorted_are_apart(sections: &[Section]) -> bool
 }
 
 /// Whether none of these sections shares a byte with another. They are sorted for this.
-pub fn sections_are_apart(mut sections: Vec<Section>) -> bool
+pub(crate) fn sections_are_apart(mut sections: Vec<Section>) -> bool
     requires { All IsSmall sections.items }
     ensures value { result ≡ are_apart sections.items }
     ensures nothing { OnTrue result (ShareNothing sections.items) }

@@ -1,10 +1,12 @@
 //! What perf states about each event for readers of the file.
 
-ghost use Rattle.std.specs.Prelude.{◌≡◌, ◌+◌, ◌≤◌, ◌<◌, ◌^◌, length, option_map, IsTrue};
+ghost use Rattle.std.specs.Prelude.{◌≡◌, ◌+◌, ◌≤◌, ◌<◌, ◌^◌, Some, length, drop, IsTrue};
 ghost use Rattle.perf_base.specs.Dynamic.{order_of};
 ghost use Rattle.perf_file.specs.Descriptions as descriptions;
+ghost use Rattle.perf_file.specs.NamePlaces as places;
 
 use crate::number::{bytes_at, number_at, small_number_at};
+use crate::section::Section;
 use perf_base::endian::Dynamic;
 
 /// By what an event is found among the descriptions.
@@ -46,7 +48,7 @@ fn ids_at(order: Dynamic, size: u32, bytes: &[u8]) -> usize
 }
 
 // How many bytes it takes.
-fn description_length(order: Dynamic, size: u32, bytes: &[u8]) -> usize
+pub(crate) fn description_length(order: Dynamic, size: u32, bytes: &[u8]) -> usize
     requires { size + 8 ≤ length bytes.now }
     ensures { result ≡ descriptions.description_length (order_of order) size bytes.now }
 {
@@ -54,7 +56,7 @@ fn description_length(order: Dynamic, size: u32, bytes: &[u8]) -> usize
 }
 
 // Whether its bytes are there.
-fn is_whole(order: Dynamic, size: u32, bytes: &[u8]) -> bool
+pub(crate) fn is_whole(order: Dynamic, size: u32, bytes: &[u8]) -> bool
     ensures { result ≡ descriptions.is_whole (order_of order) size bytes.now }
 {
     if bytes.len() < size as usize + 8 {
@@ -87,71 +89,31 @@ pub fn before_zero(bytes: &[u8]) -> &[u8]
     bytes
 }
 
-// Its name.
-fn name_in(order: Dynamic, size: u32, bytes: &[u8]) -> &[u8]
-    requires { IsTrue (descriptions.is_whole (order_of order) size bytes.now) }
-    ensures { result.now ≡ (descriptions.description_in (order_of order) size bytes.now).name }
-{
-    let length = text_length(order, size, bytes);
-    before_zero(bytes_at(bytes, size as usize + 8, length))
-}
-
-// Whether one with that first id is of an event.
-fn is_of(id: Option<u64>, other: Option<u64>, is_alike: bool) -> bool
-    ensures { result ≡ descriptions.is_of id other is_alike }
-{
-    match (id, other) {
-        (Some(id), Some(other)) => id == other,
-        (None, None) => is_alike,
-        _ => false,
-    }
-}
-
-// Whether it is of an event.
-fn describes(order: Dynamic, size: u32, bytes: &[u8], key: EventKey) -> bool
+// Its key.
+pub(crate) fn key_in(order: Dynamic, size: u32, bytes: &[u8]) -> EventKey
     requires long { 64 ≤ size }
     requires whole { IsTrue (descriptions.is_whole (order_of order) size bytes.now) }
-    ensures { result ≡ descriptions.describes key
-        (descriptions.description_in (order_of order) size bytes.now) }
+    ensures value { result ≡ places.key_in (descriptions.description_in (order_of order) size bytes.now) }
+    ensures fits { places.Fits result }
 {
-    let (ty, config) = (small_number_at(order, bytes, 0), number_at(order, bytes, 8));
-    let is_alike = ty == key.type_ && config == key.config;
-    is_of(key.id, first_id(order, size, bytes), is_alike)
+    EventKey {
+        type_: small_number_at(order, bytes, 0),
+        config: number_at(order, bytes, 8),
+        id: first_id(order, size, bytes),
+    }
 }
 
-// The name of an event in the first of so many descriptions that is of it.
-fn first_name(order: Dynamic, size: u32, count: u32, bytes: &[u8], key: EventKey) -> Option<&[u8]>
-    requires { 64 ≤ size }
-    ensures { option_map (λ b. b.now) result ≡ descriptions.first_name key
-        (descriptions.descriptions (order_of order) size count bytes.now) }
+// Where the name of the description is that begins at an offset of these bytes.
+pub(crate) fn name_place(order: Dynamic, size: u32, bytes: &[u8], at: usize) -> Section
+    requires inside { at ≤ length bytes.now }
+    requires whole { IsTrue (descriptions.is_whole (order_of order) size (drop at bytes.now)) }
+    ensures { places.name_at bytes.now result ≡ Some
+        (descriptions.description_in (order_of order) size (drop at bytes.now)).name }
 {
-    let mut left = bytes;
-    for _index in 0..count {
-        if !is_whole(order, size, left) {
-            return None;
-        }
-        if describes(order, size, left, key) {
-            return Some(name_in(order, size, left));
-        }
-        left = left.split_at(description_length(order, size, left)).1;
+    let left = bytes.split_at(at).1;
+    let text = bytes_at(left, size as usize + 8, text_length(order, size, left));
+    Section {
+        start: (at + size as usize + 8) as u64,
+        size: before_zero(text).len() as u64,
     }
-    None
-}
-
-/// The name that the feature has for an event, if it describes that.
-pub fn described_name(order: Dynamic, bytes: &[u8], key: EventKey) -> Option<&[u8]>
-    ensures { option_map (λ b. b.now) result ≡ descriptions.first_name key
-        (descriptions.descriptions_in (order_of order) bytes.now) }
-{
-    if bytes.len() < 8 {
-        return None;
-    }
-    let (count, size) = (
-        small_number_at(order, bytes, 0),
-        small_number_at(order, bytes, 4),
-    );
-    if size < 64 {
-        return None;
-    }
-    first_name(order, size, count, bytes.split_at(8).1, key)
 }

@@ -6,6 +6,7 @@ ghost use Rattle.perf_base.specs.Configured.{endian_of};
 ghost use Rattle.perf_file.specs.Features.{descriptions_of};
 ghost use Rattle.perf_file.specs.Heads.{IsGoodHead, head_in};
 ghost use Rattle.perf_file.specs.IdTables as tables;
+ghost use Rattle.perf_file.specs.Names as names;
 ghost use Rattle.perf_file.specs.Opened as opens;
 ghost use Rattle.perf_file.specs.Opens.{Gives};
 ghost use Rattle.perf_file.specs.declared.events.Event.{Event};
@@ -36,7 +37,7 @@ pub fn checked_head(bytes: &[u8]) -> Result<Head, OpenError>
 }
 
 /// The events, if their parts of the file are apart.
-pub fn events_in<'p>(
+pub(crate) fn events_in<'p>(
     alloc: Global,
     bytes: &'p [u8],
     head: Head,
@@ -46,8 +47,8 @@ pub fn events_in<'p>(
     ensures exact { Gives (λ v. map opens.event_view v.items) result (opens.events_in bytes.now head) }
     ensures order { IfOk result (λ v.
         All (λ (e : Event). endian_of e.config ≡ head.order) v.items) }
-    ensures described { IfOk result (λ v. All (λ (e : Event).
-        e.descriptions.now ≡ descriptions_of bytes.now head) v.items) }
+    ensures named { IfOk result (λ v. All (λ (e : Event). names.name_view e.name ≡
+        names.name_of head.order (descriptions_of bytes.now head) (opens.event_view e)) v.items) }
     ensures sound { IfOk result (λ _.
         (ids : List Section) × opens.HasParts bytes.now head ids) }
 {
@@ -79,7 +80,7 @@ fn sorted_table(alloc: Global, events: &[Event<'_>]) -> Result<Vec<IdOfEvent>, O
 }
 
 /// The ids of all events by rising ids, if the event of each frame can be found by them.
-pub fn found_events(alloc: Global, events: &[Event<'_>]) -> Result<Vec<IdOfEvent>, OpenError>
+pub(crate) fn found_events(alloc: Global, events: &[Event<'_>]) -> Result<Vec<IdOfEvent>, OpenError>
     ensures exact { Gives {Y = Unit {0}} (λ _. tt) result
         (opens.checked_events (map opens.event_view events.now)) }
     ensures sorted { IfOk result (λ v. IsNonDecreasingBy (λ (e : IdOfEvent). e.id) v.items) }

@@ -4,8 +4,7 @@ ghost use Rattle.std.specs.Prelude.{◌≡◌};
 ghost use Rattle.perf_base.specs.Configuration.{configured_by};
 ghost use Rattle.perf_base.specs.Configured.{configuration_of, endian_of};
 
-use crate::descriptions::EventKey;
-use crate::naming::{EventName, name_with};
+use crate::naming::EventName;
 use perf_base::ParseConfig;
 use perf_base::endian::{Dynamic, Native};
 use perf_base::sys::perf_event_attr;
@@ -16,31 +15,30 @@ pub struct Event<'p> {
     attr: perf_event_attr,
     config: ParseConfig<Dynamic>,
     ids: Vec<u64>,
-    descriptions: &'p [u8],
+    name: EventName<'p>,
     ghost configured: { configuration_of config ≡ configured_by attr },
 }
 
 impl<'p> Event<'p> {
     ghost use Rattle.perf_file.specs.Names as names;
-    ghost use Rattle.perf_file.specs.Opened.{event_view};
 
-    // The event of an attribute and its ids, of a file in that order with these descriptions.
+    // The event of an attribute, its ids and its name, of a file in that order.
     pub(crate) fn new(
         attr: perf_event_attr,
         order: Dynamic,
         ids: Vec<u64>,
-        descriptions: &'p [u8],
+        name: EventName<'p>,
     ) -> Event<'p>
         ensures attr { result.attr ≡ attr }
         ensures ids { result.ids ≡ ids }
         ensures order { endian_of result.config ≡ order }
-        ensures descriptions { result.descriptions.now ≡ descriptions.now }
+        ensures name { names.name_view result.name ≡ names.name_view name.entry }
     {
         Event {
             attr,
             config: config_of(attr, order),
             ids,
-            descriptions,
+            name,
         }
     }
 
@@ -72,17 +70,11 @@ impl<'p> Event<'p> {
     /// ids by its type and its config; or else the one that perf prints for an event of the kernel's
     /// own; or else these two numbers.
     ///
-    /// Each call reads the descriptions up to that one. A description that is cut off ends them.
+    /// It was found as the file was opened. A description that is cut off ends them.
     pub fn name(&self) -> EventName<'p>
-        ensures { names.name_view result ≡ names.name_of (endian_of self.now.config)
-            self.now.descriptions.now (event_view self.now) }
+        ensures { names.name_view result ≡ names.name_view self.now.name }
     {
-        let key = EventKey {
-            type_: self.attr.type_,
-            config: self.attr.config,
-            id: self.ids.first().copied(),
-        };
-        name_with(*self.config.endian(), self.descriptions, key)
+        self.name
     }
 }
 

@@ -2,7 +2,9 @@
 
 ghost use Rattle.std.specs.Prelude.{◌≡◌, ◌<◌, ◌%◌, ◌^◌, count_ones, option_map};
 ghost use Rattle.perf_file.specs.Features as features;
+ghost use Rattle.perf_base.specs.Layout.{slice};
 ghost use Rattle.perf_file.specs.Heads.{IsGoodHead};
+ghost use Rattle.perf_file.specs.Sections.{IsInside};
 
 use crate::head::Head;
 use crate::number::bytes_at;
@@ -37,7 +39,7 @@ fn feature_section(bytes: &[u8], head: Head, feature: u32) -> Option<Section>
 }
 
 // The bytes of a part of the file, if it ends inside that.
-fn part_in(bytes: &[u8], section: Section) -> Option<&[u8]>
+pub(crate) fn part_in(bytes: &[u8], section: Section) -> Option<&[u8]>
     ensures { option_map (λ b. b.now) result ≡ features.part_in bytes.now section }
 {
     if is_inside(bytes, section) {
@@ -56,8 +58,26 @@ fn feature_in(bytes: &[u8], head: Head, feature: u32) -> Option<&[u8]>
     part_in(bytes, feature_section(bytes, head, feature)?)
 }
 
+/// Where the descriptions of events are: no bytes if the file does not have them, or if they end beyond
+/// it.
+pub fn description_section(bytes: &[u8], head: Head) -> Section
+    requires { IsGoodHead bytes.now head }
+    ensures inside { IsInside bytes.now result }
+    ensures value { slice bytes.now result.start result.size ≡
+        features.descriptions_of bytes.now head }
+{
+    match feature_section(bytes, head, EVENT_DESCRIPTIONS) {
+        Some(section) => if is_inside(bytes, section) {
+            section
+        } else {
+            Section { start: 0, size: 0 }
+        },
+        None => Section { start: 0, size: 0 },
+    }
+}
+
 /// The descriptions of events; none if the file does not have them, or if they end beyond it.
-pub fn find_descriptions(bytes: &[u8], head: Head) -> &[u8]
+pub(crate) fn find_descriptions(bytes: &[u8], head: Head) -> &[u8]
     requires { IsGoodHead bytes.now head }
     ensures { result.now ≡ features.descriptions_of bytes.now head }
 {

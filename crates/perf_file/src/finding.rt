@@ -12,7 +12,7 @@ ghost use Rattle.perf_file.specs.Pieces as pieces;
 ghost use Rattle.perf_file.specs.declared.ids.IdOfEvent.{IdOfEvent};
 
 use crate::id_place::{IdPlace, id_at};
-use crate::ids::IdOfEvent;
+use crate::ids::{IdOfEvent, event_of};
 use crate::listing::{header_of, payload_length, size_of, split_most};
 use crate::owning::Owner;
 use perf_base::endian::Dynamic;
@@ -36,23 +36,6 @@ pub struct Finder<'a> {
     pub ids: &'a [IdOfEvent],
 }
 
-// The number of the event that has an id, in a table that is by rising ids.
-fn event_in(table: &[IdOfEvent], id: u64) -> Option<usize>
-    ensures { IsNonDecreasingBy (λ (e : IdOfEvent). e.id) table.now →
-        result ≡ tables.event_of table.now id }
-{
-    let at = table.partition_point(|entry| entry.id < id);
-    if at == table.len() {
-        return None;
-    }
-    let entry = table[at];
-    if entry.id == id {
-        Some(entry.event)
-    } else {
-        None
-    }
-}
-
 impl Finder<'_> {
     // The owner of a frame by its id.
     fn owner_by(&self, id: Option<u64>) -> Owner
@@ -65,7 +48,7 @@ impl Finder<'_> {
         if id == 0 {
             return Owner::Event(0);
         }
-        match event_in(self.ids, id) {
+        match event_of(self.ids, id) {
             Some(event) => Owner::Event(event),
             None => Owner::Unknown(id),
         }

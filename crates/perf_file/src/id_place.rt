@@ -87,7 +87,7 @@ pub fn is_same_place(first: Option<IdPlace>, second: Option<IdPlace>) -> bool
 }
 
 // The number of the eight bytes at an offset, if there are so many.
-fn number_if(order: Dynamic, bytes: &[u8], place: usize) -> Option<u64>
+pub(crate) fn number_if(order: Dynamic, bytes: &[u8], place: usize) -> Option<u64>
     ensures { result ≡ places.number_if (order_of order) bytes.now place }
 {
     if bytes.len() < 8 || bytes.len() - 8 < place {

@@ -13,7 +13,7 @@ use crate::section::{Section, is_inside, section_at};
 use std::alloc::{AllocError, Global};
 
 // Where the ids of an event are, by its number.
-pub fn id_section_at(bytes: &[u8], head: Head, index: u64) -> Result<Section, OpenError>
+pub(crate) fn id_section_at(bytes: &[u8], head: Head, index: u64) -> Result<Section, OpenError>
     requires good { IsGoodHead bytes.now head }
     requires inside { index < places.entry_count head }
     ensures value { result ≡ places.id_section_at bytes.now head index }
@@ -31,7 +31,7 @@ pub fn id_section_at(bytes: &[u8], head: Head, index: u64) -> Result<Section, Op
 }
 
 /// Where the ids of each event are.
-pub fn id_sections_of(alloc: Global, bytes: &[u8], head: Head) -> Result<Vec<Section>, OpenError>
+pub(crate) fn id_sections_of(alloc: Global, bytes: &[u8], head: Head) -> Result<Vec<Section>, OpenError>
     requires { IsGoodHead bytes.now head }
     ensures exact { Gives (λ v. v.items) result (places.id_sections_in bytes.now head) }
     ensures inside { IfOk result (λ v. All (IsInside bytes.now) v.items) }
@@ -46,7 +46,7 @@ pub fn id_sections_of(alloc: Global, bytes: &[u8], head: Head) -> Result<Vec<Sec
 }
 
 /// All parts of the file: the head, the attributes, the frames, and the ids of each event.
-pub fn sections_of(alloc: Global, head: Head, ids: &[Section]) -> Result<Vec<Section>, AllocError>
+pub(crate) fn sections_of(alloc: Global, head: Head, ids: &[Section]) -> Result<Vec<Section>, AllocError>
     ensures { IfOk result (λ v. v.items ≡ places.sections_of head ids.now) }
 {
     let mut sections = Vec::new(alloc);
@@ -63,7 +63,7 @@ pub fn sections_of(alloc: Global, head: Head, ids: &[Section]) -> Result<Vec<Sec
 }
 
 /// Refuses parts that share a byte.
-pub fn check_apart(sections: Vec<Section>) -> Result<(), OpenError>
+pub(crate) fn check_apart(sections: Vec<Section>) -> Result<(), OpenError>
     requires { All IsSmall sections.items }
     ensures value { result ≡ places.checked_apart sections.items }
     ensures nothing { OnOk result (ShareNothing sections.items) }

@@ -27,10 +27,10 @@ pub fn push_ids(table: &mut Vec<IdOfEvent>, event: usize, ids: &[u64]) -> Result
     Ok(())
 }
 
-/// The number of the event that has an id, in a table by rising ids.
-pub fn event_of(table: &[IdOfEvent], id: u64) -> Option<usize>
-    requires { IsNonDecreasingBy (λ (e : IdOfEvent). e.id) table.now }
-    ensures { result ≡ tables.event_of table.now id }
+/// The number of the event that has an id, in a table that is by rising ids.
+pub(crate) fn event_of(table: &[IdOfEvent], id: u64) -> Option<usize>
+    ensures { IsNonDecreasingBy (λ (e : IdOfEvent). e.id) table.now →
+        result ≡ tables.event_of table.now id }
 {
     let at = table.partition_point(|entry| entry.id < id);
     if at == table.len() {

@@ -163,7 +163,7 @@ fn cache_name(config: u64) -> Option<&'static str>
 }
 
 /// The name of an event of a type, if it is one of the kernel's own.
-pub fn known_name(ty: u32, config: u64) -> Option<&'static str>
+pub(crate) fn known_name(ty: u32, config: u64) -> Option<&'static str>
     ensures { option_map (λ text. text.now) result ≡ names.known_name ty config }
 {
     match ty {

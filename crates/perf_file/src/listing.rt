@@ -10,7 +10,7 @@ ghost use Rattle.perf_file.specs.declared.listing.FileFrames.{FileFrames};
 
 use crate::entries::Entry;
 use crate::opening::Recording;
-use crate::owning::{Owner, owner_of};
+use crate::owning::Owner;
 use perf_base::Endian;
 use perf_base::endian::Dynamic;
 use perf_base::sys::perf_event_header;
@@ -60,7 +60,7 @@ fn first_u32(order: Dynamic, bytes: &[u8]) -> u32
 }
 
 // How many bytes after a frame are no frames.
-pub fn payload_length(order: Dynamic, frame: &Result<Frame<'_, '_>, BadFrame>) -> u64
+pub(crate) fn payload_length(order: Dynamic, frame: &Result<Frame<'_, '_>, BadFrame>) -> u64
     ensures { result ≡ pieces.payload_length (order_of order) (sight_of frame.now) }
 {
     match frame {
@@ -74,7 +74,7 @@ pub fn payload_length(order: Dynamic, frame: &Result<Frame<'_, '_>, BadFrame>) -
 }
 
 // The first bytes, at most so many, and those after them.
-pub fn split_most(bytes: &[u8], count: u64) -> (&[u8], &[u8])
+pub(crate) fn split_most(bytes: &[u8], count: u64) -> (&[u8], &[u8])
     ensures front { result.0.now ≡ pieces.take_most count bytes.now }
     ensures back { result.1.now ≡ pieces.drop_most count bytes.now }
 {
@@ -86,7 +86,7 @@ pub fn split_most(bytes: &[u8], count: u64) -> (&[u8], &[u8])
 }
 
 // How many bytes a frame with that header takes.
-pub fn size_of(header: perf_event_header) -> usize
+pub(crate) fn size_of(header: perf_event_header) -> usize
     ensures { result ≡ pieces.size_of header }
 {
     if header.size < 8 {
@@ -110,10 +110,7 @@ pub fn header_of(frame: &Result<Frame<'_, '_>, BadFrame>) -> perf_event_header
 fn owner_of_found(recording: &Recording<'_>, frame: &Result<Frame<'_, '_>, BadFrame>) -> Owner
     ensures { result ≡ owner_of_sight (view recording.now) (sight_of frame.now) }
 {
-    match frame {
-        Ok(frame) => owner_of(recording, frame.header().type_, frame.rest()),
-        Err(bad) => owner_of(recording, bad.header().type_, &[]),
-    }
+    recording.finder().owner_of_found(frame)
 }
 
 // The offset in the file at which these bytes of its frames are left.

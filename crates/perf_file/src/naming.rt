@@ -1,12 +1,12 @@
 //! The name of an event.
 
-ghost use Rattle.std.specs.Prelude.{◌≡◌, Some};
-ghost use Rattle.perf_base.specs.Dynamic.{order_of};
+ghost use Rattle.std.specs.Prelude.{◌≡◌, Some, option_map};
+ghost use Rattle.perf_file.specs.NamePlaces as places;
 ghost use Rattle.perf_file.specs.Names as names;
 
-use crate::descriptions::{EventKey, described_name};
+use crate::features::part_in;
 use crate::kernel_names::known_name;
-use perf_base::endian::Dynamic;
+use crate::section::Section;
 use std::fmt;
 
 /// The name of an event.
@@ -38,19 +38,30 @@ fn name_by_numbers<'p>(ty: u32, config: u64) -> EventName<'p>
     }
 }
 
-/// The name of an event, by the descriptions of the file.
-pub fn name_with(order: Dynamic, bytes: &[u8], key: EventKey) -> EventName<'_>
-    ensures { names.name_view result ≡ names.name_with (order_of order) bytes.now key }
+// The bytes of a name at its place, if it was found.
+fn bytes_of(bytes: &[u8], place: Section) -> Option<&[u8]>
+    ensures { option_map (λ b. b.now) result ≡ places.name_at bytes.now place }
 {
-    match described_name(order, bytes, key) {
+    if place.start == 0 {
+        return None;
+    }
+    part_in(bytes, place)
+}
+
+/// The name of an event with these numbers: the one at a place of these bytes, or if that begins at 0,
+/// has no bytes or is not there, the one by its numbers.
+pub fn name_or(bytes: &[u8], place: Section, ty: u32, config: u64) -> EventName<'_>
+    ensures { names.name_view result ≡ places.name_or bytes.now place ty config }
+{
+    match bytes_of(bytes, place) {
         Some(name) => {
             if name.is_empty() {
-                name_by_numbers(key.type_, key.config)
+                name_by_numbers(ty, config)
             } else {
                 EventName::Described(name)
             }
         }
-        None => name_by_numbers(key.type_, key.config),
+        None => name_by_numbers(ty, config),
     }
 }
 

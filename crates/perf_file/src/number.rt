@@ -9,7 +9,7 @@ use perf_base::Endian;
 use perf_base::endian::Dynamic;
 
 /// The number of the eight bytes at an offset.
-pub fn number_at(order: Dynamic, bytes: &[u8], at: usize) -> u64
+pub(crate) fn number_at(order: Dynamic, bytes: &[u8], at: usize) -> u64
     requires { at + 8 ≤ length bytes.now }
     ensures { result ≡ numbers.number (order_of order) bytes.now at }
 {
@@ -20,7 +20,7 @@ pub fn number_at(order: Dynamic, bytes: &[u8], at: usize) -> u64
 }
 
 /// The number of the four bytes at an offset.
-pub fn small_number_at(order: Dynamic, bytes: &[u8], at: usize) -> u32
+pub(crate) fn small_number_at(order: Dynamic, bytes: &[u8], at: usize) -> u32
     requires { at + 4 ≤ length bytes.now }
     ensures { result ≡ numbers.small_number (order_of order) bytes.now at }
 {

@@ -41,6 +41,7 @@ pub struct Recording<'p> {
 
 impl<'p> Recording<'p> {
     ghost use Rattle.perf_file.specs.Features.{file_descriptions};
+    ghost use Rattle.perf_file.specs.Names as names;
     ghost use Rattle.perf_file.specs.Opens.{Gives};
     ghost use Rattle.perf_file.specs.Views.{view};
     ghost use Rattle.perf_file.specs.declared.head.Head.{Head};
@@ -48,16 +49,17 @@ impl<'p> Recording<'p> {
 
     /// Opens a file that is all in memory.
     ///
-    /// Memory is needed for the events and their ids alone. The refusal is the first check that
-    /// fails, in the order of [`OpenError`].
+    /// Memory is needed for the events and their ids alone. The names of all events are found in one
+    /// reading of their descriptions. The refusal is the first check that fails, in the order of
+    /// [`OpenError`].
     #[tactic(auto, unfolding(crate::specs::Opened::opened))]
     pub fn open(alloc: Global, bytes: &'p [u8]) -> Result<Recording<'p>, OpenError>
         ensures exact { Gives view result (opens.opened bytes.now) }
         ensures sound { IfOk result (λ _.
             (h : Head) × (ids : List Section) × opens.IsSound bytes.now h ids) }
         ensures bytes { IfOk result (λ r. r.bytes.now ≡ bytes.now) }
-        ensures described { IfOk result (λ r. All (λ (e : Event).
-            e.descriptions.now ≡ file_descriptions bytes.now) r.events.items) }
+        ensures named { IfOk result (λ r. All (λ (e : Event). names.name_view e.name ≡
+            names.name_of r.order (file_descriptions bytes.now) (opens.event_view e)) r.events.items) }
     {
         let head = checked_head(bytes)?;
         let events = events_in(alloc, bytes, head)?;

@@ -1,19 +1,25 @@
 //! The events of a file are read.
 
-ghost use Rattle.std.specs.Prelude.{◌≡◌, ◌≤◌, ◌/◌, IfOk, OnOk, All, length, map, drop};
+ghost use Rattle.std.specs.Prelude.{◌≡◌, ◌≤◌, ◌<◌, ◌/◌, ℕ, IfOk, OnOk, All, length, map, drop, slice_index_or};
 ghost use Rattle.std.specs.List.{zip};
 ghost use Rattle.perf_base.specs.Configured.{endian_of};
 ghost use Rattle.perf_base.specs.Dynamic.{order_of};
 ghost use Rattle.perf_base.specs.Layout.{words_of};
+ghost use Rattle.perf_base.specs.declared.sys.perf_event_attr.{perf_event_attr};
 ghost use Rattle.perf_file.specs.IdPlaces as places;
 ghost use Rattle.perf_file.specs.Opened as opens;
 ghost use Rattle.perf_file.specs.Sections.{IsInside};
+ghost use Rattle.perf_file.specs.Names as names;
 ghost use Rattle.perf_file.specs.declared.events.Event.{Event};
+ghost use Rattle.perf_file.specs.declared.section.Section.{Section};
 
 use crate::error::OpenError;
 use crate::events::Event;
 use crate::id_place::{IdPlace, id_place, is_same_place};
 use crate::ids::{IdOfEvent, push_ids};
+use crate::name_places::NamePlace;
+use crate::naming::EventName;
+use crate::naming_events::{name_with, names_of};
 use crate::number::number_at;
 use crate::section::Section;
 use perf_base::endian::Dynamic;
@@ -40,27 +46,27 @@ fn ids_in(
     Ok(ids)
 }
 
-// The event of an attribute and of the section of its ids.
+// The event of an attribute and of the section of its ids, with that name.
 fn event_in<'p>(
     alloc: Global,
     order: Dynamic,
     bytes: &[u8],
     attr: perf_event_attr,
     section: Section,
-    descriptions: &'p [u8],
+    name: EventName<'p>,
 ) -> Result<Event<'p>, AllocError>
     requires { IsInside bytes.now section }
     ensures value { IfOk result (λ e. opens.event_view e ≡
         opens.event_in (order_of order) bytes.now (attr, section)) }
     ensures order { IfOk result (λ e. endian_of e.config ≡ order) }
-    ensures described { IfOk result (λ e. e.descriptions.now ≡ descriptions.now) }
+    ensures name { IfOk result (λ e. names.name_view e.name ≡ names.name_view name.entry) }
 {
     let ids = ids_in(alloc, order, bytes, section)?;
-    Ok(Event::new(attr, order, ids, descriptions))
+    Ok(Event::new(attr, order, ids, name))
 }
 
-/// The events of attributes and of the sections of their ids.
-pub fn events_with<'p>(
+/// The events of attributes and of the sections of their ids, named by these descriptions.
+pub(crate) fn events_with<'p>(
     alloc: Global,
     order: Dynamic,
     bytes: &[u8],
@@ -73,20 +79,22 @@ pub fn events_with<'p>(
     ensures value { IfOk result (λ v. map opens.event_view v.items ≡
         map (opens.event_in (order_of order) bytes.now) (zip attributes.now sections.now)) }
     ensures order { IfOk result (λ v. All (λ (e : Event). endian_of e.config ≡ order) v.items) }
-    ensures described { IfOk result (λ v.
-        All (λ (e : Event). e.descriptions.now ≡ descriptions.now) v.items) }
+    ensures named { IfOk result (λ v. All (λ (e : Event). names.name_view e.name ≡
+        names.name_of order descriptions.now (opens.event_view e)) v.items) }
 {
+    let places = names_of(alloc, order, bytes, descriptions, attributes, sections)?;
     let mut events = Vec::new(alloc);
     for index in 0..sections.len() {
         let (attr, section) = (attributes[index], sections[index]);
-        let event = event_in(alloc, order, bytes, attr, section, descriptions)?;
+        let name = name_with(order, bytes, descriptions, &places, &attr, section);
+        let event = event_in(alloc, order, bytes, attr, section, name)?;
         events.push(event)?;
     }
     Ok(events)
 }
 
 /// Where the frames of the first event have its id.
-pub fn first_place(events: &[Event<'_>]) -> Option<IdPlace>
+pub(crate) fn first_place(events: &[Event<'_>]) -> Option<IdPlace>
     ensures { result ≡ places.first_place (opens.attributes_of (map opens.event_view events.now)) }
 {
     match events.first() {
@@ -109,7 +117,7 @@ fn all_at(place: Option<IdPlace>, events: &[Event<'_>]) -> bool
 }
 
 /// Refuses several events without a common place of their ids.
-pub fn check_places(events: &[Event<'_>]) -> Result<(), OpenError>
+pub(crate) fn check_places(events: &[Event<'_>]) -> Result<(), OpenError>
     ensures { result ≡
         places.checked_places (opens.attributes_of (map opens.event_view events.now)) }
 {
@@ -121,7 +129,7 @@ pub fn check_places(events: &[Event<'_>]) -> Result<(), OpenError>
 }
 
 /// The ids of all events, in the order of the file.
-pub fn table_of(alloc: Global, events: &[Event<'_>]) -> Result<Vec<IdOfEvent>, AllocError>
+pub(crate) fn table_of(alloc: Global, events: &[Event<'_>]) -> Result<Vec<IdOfEvent>, AllocError>
     ensures { IfOk result (λ v. v.items ≡ opens.table_of (map opens.event_view events.now)) }
 {
     let mut table = Vec::new(alloc);

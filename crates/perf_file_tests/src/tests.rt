@@ -2,6 +2,7 @@
 
 mod features;
 mod files;
+mod many;
 mod names;
 mod opened;
 mod refused;

@@ -3,6 +3,7 @@
 ghost use Rattle.std.specs.Prelude.{◌≡◌, false, MatchOption};
 ghost use Rattle.perf_base.specs.declared.endian.Dynamic.{Dynamic};
 ghost use Rattle.perf_base.specs.declared.sys.perf_event_attr.{perf_event_attr};
+ghost use Rattle.perf_flat.specs.FlatConfigs as codes;
 
 use perf_base::ParseConfig;
 use perf_base::endian::{Dynamic, Native};
@@ -33,6 +34,17 @@ pub struct FlatConfig {
     pub sample_regs_intr: u64,
 }
 
+/// A byte order as a number: 0 for the lowest byte first, 1 for the highest.
+#[inline]
+pub fn order_code(order: Dynamic) -> u32
+    ensures { result ≡ codes.order_code order }
+{
+    match order {
+        Dynamic::Little => 0,
+        Dynamic::Big => 1,
+    }
+}
+
 impl FlatConfig {
     ghost use Rattle.perf_flat.specs.FlatConfigs.{Means, flat_config_of, is_valid};
 
@@ -42,10 +54,7 @@ impl FlatConfig {
     {
         FlatConfig {
             version: CONFIG_VERSION,
-            order: match order {
-                Dynamic::Little => 0,
-                Dynamic::Big => 1,
-            },
+            order: order_code(order),
             sample_type: attr.sample_type,
             read_format: attr.read_format,
             flags: attr.flags,

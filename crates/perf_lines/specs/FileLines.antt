@@ -7,7 +7,7 @@ use Rattle.perf_base.specs.Order.{Order}
 use Rattle.perf_base.specs.declared.config.ParseConfig.{ParseConfig}
 use Rattle.perf_base.specs.declared.endian.Dynamic.{Dynamic}
 use Rattle.perf_records.specs.Sights.{sight_of}
-use Rattle.perf_lines.specs.FileText.{Words, words_of, header_seen, file_line}
+use Rattle.perf_lines.specs.FileText.{Words, words_of, file_line}
 use Rattle.perf_lines.specs.declared.line.file.FrameLine.{FrameLine}
 
 -- how frames are read: under a configuration, in its order
@@ -20,4 +20,4 @@ words_in l = words_of l.event (option_map (λ c. read_by c.now) l.config) l.has_
 
 -- its line with a number
 abbrev pub line_in : ℕ → FrameLine → List ℕ
-line_in index l = file_line index l.at l.event (header_seen (sight_of l.frame)) (words_in l)
+line_in index l = file_line index l.at l.event l.header (words_in l)

@@ -62,11 +62,6 @@ printed (Err why) = codes "refused" ∷ why ∷ []
 abbrev pub Prints : Words → (read : Bool) → (old new : List ℕ) → Type 0
 Prints words read old new = (read ≡ is_ok words) × (new ≡ old ++ with_spaces (printed words))
 
--- the header of what is found
-abbrev pub header_seen : Sight → perf_event_header
-header_seen (whole h bytes borrowed) = h
-header_seen (bad h refusal) = h
-
 -- the beginning of a line: its number, the offset of the frame in the file, its event, its header
 abbrev pub line_start : ℕ → ℕ → FrameEvent → perf_event_header → List ℕ
 line_start index at e h =

@@ -1,11 +1,12 @@
 //! The lines of the text.
 
-ghost use Rattle.std.specs.Prelude.{◌≡◌, ◌+◌, ◌<◌, ◌^◌, ◌++◌, codes, length, string_bytes, OnOk};
+ghost use Rattle.std.specs.Prelude.{◌≡◌, ◌+◌, ◌<◌, ◌≤◌, ◌^◌, ◌++◌, [], ◌∷◌, codes, decimal, length, string_bytes, OnOk};
 ghost use Rattle.std.specs.Prelude.{IfOk, IfErr};
 ghost use Rattle.perf_base.specs.Errors.{kind_of};
 ghost use Rattle.perf_parser.specs.Runs.{seen_answer, seen_answers};
 ghost use Rattle.perf_lines.specs.Fields.{with_spaces};
 ghost use Rattle.perf_lines.specs.Text as lines;
+ghost use Rattle.perf_text.specs.Strips.{strip_text, room_of};
 
 pub mod file;
 
@@ -96,15 +97,26 @@ fn push_line(
         ≡ string_bytes text.old ++ lines.line index header.now (seen_answer answer.now)) }
 {
     let mut strip = Strip::new();
+    put_header(&mut strip, header);
+    strip.put_number(index as u64);
+    text.push_str(strip.text())?;
+    push_answer(text, answer)
+}
+
+// Writes the numbers of a header before the text, each after a space.
+#[inline]
+fn put_header(strip: &mut Strip, header: &perf_event_header)
+    requires { 63 ≤ room_of strip.old }
+    ensures text { strip_text strip.new ≡ with_spaces (decimal header.now.type_
+        ∷ decimal header.now.misc ∷ decimal header.now.size ∷ []) ++ strip_text strip.old }
+    ensures room { room_of strip.old ≤ room_of strip.new + 63 }
+{
     strip.put_number(u64::from(header.size));
     strip.put(" ");
     strip.put_number(u64::from(header.misc));
     strip.put(" ");
     strip.put_number(u64::from(header.type_));
     strip.put(" ");
-    strip.put_number(index as u64);
-    text.push_str(strip.text())?;
-    push_answer(text, answer)
 }
 
 fn push_answer(text: &mut String, answer: &ParseResult<Record>) -> Result<(), AllocError>

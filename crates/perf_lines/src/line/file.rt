@@ -5,14 +5,13 @@ ghost use Rattle.std.specs.Prelude.{string_bytes, option_map};
 ghost use Rattle.perf_base.specs.declared.error.ErrorKind.TheVariants.{OutOfMemory};
 ghost use Rattle.perf_buffers.specs.Prelude.{chunk_bytes};
 ghost use Rattle.perf_records.specs.Answers.{answer_after};
-ghost use Rattle.perf_records.specs.Sights.{sight_of};
 ghost use Rattle.perf_text.specs.Strips.{strip_text, room_of};
 ghost use Rattle.perf_lines.specs.FileLines as of_frame;
 ghost use Rattle.perf_lines.specs.FileText as files;
 ghost use Rattle.perf_lines.specs.Text as lines;
 
 use crate::fields::push_hex;
-use crate::line::kind_name;
+use crate::line::{kind_name, put_header};
 use crate::records::push_record;
 use perf_base::endian::Dynamic;
 use perf_base::sys::perf_event_header;
@@ -44,6 +43,8 @@ pub struct FrameLine<'a, 'p> {
     pub event: FrameEvent,
     /// The configuration of that event, if there is one.
     pub config: Option<&'a ParseConfig<Dynamic>>,
+    /// The header that was found there.
+    pub header: perf_event_header,
     /// What was found there: a frame, or a header that no whole frame follows.
     pub frame: Result<Frame<'p, 'p>, BadFrame>,
     /// Whether the bytes after the frame that it announces are all there.
@@ -67,20 +68,10 @@ pub fn push_file_line(
     ensures text { OnOk result (string_bytes text.new
         ≡ string_bytes text.old ++ of_frame.line_in index found.now) }
 {
-    push_start(text, index, found.at, found.event, header_of(&found.frame))?;
+    push_start(text, index, found.at, found.event, &found.header)?;
     let read = push_words(text, alloc, found)?;
     text.push_str("\n")?;
     Ok(read)
-}
-
-// The header of what was found.
-fn header_of(frame: &Result<Frame<'_, '_>, BadFrame>) -> perf_event_header
-    ensures { result ≡ files.header_seen (sight_of frame.now) }
-{
-    match frame {
-        Ok(frame) => frame.header(),
-        Err(bad) => bad.header(),
-    }
 }
 
 // Appends the beginning of a line.
@@ -89,18 +80,13 @@ fn push_start(
     index: usize,
     at: usize,
     event: FrameEvent,
-    header: perf_event_header,
+    header: &perf_event_header,
 ) -> Result<(), AllocError>
     ensures { OnOk result (string_bytes text.new
-        ≡ string_bytes text.old ++ files.line_start index at event header) }
+        ≡ string_bytes text.old ++ files.line_start index at event header.now) }
 {
     let mut strip = Strip::new();
-    strip.put_number(u64::from(header.size));
-    strip.put(" ");
-    strip.put_number(u64::from(header.misc));
-    strip.put(" ");
-    strip.put_number(u64::from(header.type_));
-    strip.put(" ");
+    put_header(&mut strip, header);
     put_event(&mut strip, event);
     strip.put(" ");
     strip.put_number(at as u64);

@@ -10,4 +10,4 @@ returns c = λ descriptions described.
     c.in_ok-push_events.ensures
     ∙ ap (λ text. text ++ own_lines 0 c.events.result.now) c.new-text.ensures.bytes
     ∙ ap (λ (es : List Event). own_lines 0 es) c.events.ensures.are
-    ∙ named_alike r.order descriptions 0 r.events.items r.ordered described
+    ∙ named_alike r.order descriptions 0 r.events.items described

@@ -7,19 +7,19 @@ use Rattle.perf_file.proofs.Rising.{found_at, absent}
 use Rattle.perf_file.proofs.ids.event_of.Goals as goal
 
 pub returns-then-at-table : goal.returns-then-at-table
-returns-then-at-table c =
-    let parted = IsPartitionedBy-ltb (λ (e : IdOfEvent). e.id) c.args.table.now c.args.id c.requires in
+returns-then-at-table c sorted =
+    let parted = IsPartitionedBy-ltb (λ (e : IdOfEvent). e.id) c.args.table.now c.args.id sorted in
     let point = IsPartitionPoint-from_clause (λ (e : IdOfEvent). nat_lt e.id c.args.id) _ _ c.partition_point-at.ensures.partitioned parted (λ a r q k. search (rules, tests)) in
-    sym (absent c.args.table.now c.partition_point-at.result c.args.id c.requires point (λ d lt is. absurd (omega arith)))
+    sym (absent c.args.table.now c.partition_point-at.result c.args.id sorted point (λ d lt is. absurd (omega arith)))
 
 pub returns-then-entry-id : goal.returns-then-entry-id
-returns-then-entry-id c =
-    let parted = IsPartitionedBy-ltb (λ (e : IdOfEvent). e.id) c.args.table.now c.args.id c.requires in
+returns-then-entry-id c sorted =
+    let parted = IsPartitionedBy-ltb (λ (e : IdOfEvent). e.id) c.args.table.now c.args.id sorted in
     let point = IsPartitionPoint-from_clause (λ (e : IdOfEvent). nat_lt e.id c.args.id) _ _ c.partition_point-at.ensures.partitioned parted (λ a r q k. search (rules, tests)) in
     sym (found_at c.args.table.now c.partition_point-at.result c.args.id (pair 0 0) point (omega arith) c.if-entry-id.true)
 
 pub returns-else-entry-id : goal.returns-else-entry-id
-returns-else-entry-id c =
-    let parted = IsPartitionedBy-ltb (λ (e : IdOfEvent). e.id) c.args.table.now c.args.id c.requires in
+returns-else-entry-id c sorted =
+    let parted = IsPartitionedBy-ltb (λ (e : IdOfEvent). e.id) c.args.table.now c.args.id sorted in
     let point = IsPartitionPoint-from_clause (λ (e : IdOfEvent). nat_lt e.id c.args.id) _ _ c.partition_point-at.ensures.partitioned parted (λ a r q k. search (rules, tests)) in
-    sym (absent c.args.table.now c.partition_point-at.result c.args.id c.requires point (λ d lt is. c.if-entry-id.false (ap (λ (e : IdOfEvent). e.id) (get_or_default c.args.table.now c.partition_point-at.result (pair 0 0) d lt) ∙ is)))
+    sym (absent c.args.table.now c.partition_point-at.result c.args.id sorted point (λ d lt is. c.if-entry-id.false (ap (λ (e : IdOfEvent). e.id) (get_or_default c.args.table.now c.partition_point-at.result (pair 0 0) d lt) ∙ is)))

@@ -4,6 +4,7 @@ use Rattle.std.proofs.lemmas.List.Elements.{All-push}
 use Rattle.perf_base.specs.Attribute.{zero_attribute}
 use Rattle.perf_base.specs.Configured.{endian_of}
 use Rattle.perf_base.specs.Dynamic.{order_of}
+use Rattle.perf_file.specs.Names.{name_view, name_of}
 use Rattle.perf_file.specs.Opened.{FileEvent, event_view, event_in}
 use Rattle.perf_file.specs.declared.events.Event.{Event}
 use Rattle.perf_file.specs.declared.section.Section.{Section}
@@ -26,10 +27,15 @@ loop-index-preserved c =
     ∙ sym more in (
       rw c.in_ok-push.ensures.items one,
       rw c.in_ok-push.ensures.items (All-push (λ (e : Event). endian_of e.config ≡ c.args.order) _ _ c.loop-index.invariant.1 c.in_ok-event.ensures.order),
-      rw c.in_ok-push.ensures.items (All-push (λ (e : Event). e.descriptions.now ≡ c.args.descriptions.now) _ _ c.loop-index.invariant.2 c.in_ok-event.ensures.described),
+      rw c.in_ok-push.ensures.items (All-push (λ (e : Event). name_view e.name ≡ name_of c.args.order c.args.descriptions.now (event_view e)) _ _ c.loop-index.invariant.2 (c.in_ok-event.ensures.name ∙ c.name_with-name.ensures ∙ ap (name_of c.args.order c.args.descriptions.now) (sym c.in_ok-event.ensures.value))),
     )
 
 pub returns-clause-value : goal.returns-clause-value
 returns-clause-value c =
     let all : length c.args.sections.now ≤ c.loop-index.index = omega arith in
     c.loop-index.invariant.0 ∙ ap (map (event_in (order_of c.args.order) c.args.bytes.now)) (zip_all c.args.attributes.now c.args.sections.now c.loop-index.index all)
+
+pub name_with-name-requires-clause-kept : goal.name_with-name-requires-clause-kept
+name_with-name-requires-clause-kept c =
+    let zero_section : Section = record { start = 0; size = 0 } in
+    rw c.deref.ensures.value (c.in_ok-places.ensures.kept c.loop-index.index zero_attribute zero_section (omega arith))
