@@ -103,7 +103,13 @@ fn name_of(
 }
 
 // Writes to each event where its name is.
-fn put_names(bytes: &[u8], head: Head, descriptions: Section, found: &[NamePlace], all: &mut [FlatEvent])
+fn put_names(
+    bytes: &[u8],
+    head: Head,
+    descriptions: Section,
+    found: &[NamePlace],
+    all: &mut [FlatEvent],
+)
     requires inside { IsInside bytes.now descriptions }
     requires value { slice bytes.now descriptions.start descriptions.size ≡
         descriptions_of bytes.now head }

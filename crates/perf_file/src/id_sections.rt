@@ -31,7 +31,11 @@ pub(crate) fn id_section_at(bytes: &[u8], head: Head, index: u64) -> Result<Sect
 }
 
 /// Where the ids of each event are.
-pub(crate) fn id_sections_of(alloc: Global, bytes: &[u8], head: Head) -> Result<Vec<Section>, OpenError>
+pub(crate) fn id_sections_of(
+    alloc: Global,
+    bytes: &[u8],
+    head: Head,
+) -> Result<Vec<Section>, OpenError>
     requires { IsGoodHead bytes.now head }
     ensures exact { Gives (λ v. v.items) result (places.id_sections_in bytes.now head) }
     ensures inside { IfOk result (λ v. All (IsInside bytes.now) v.items) }
@@ -46,7 +50,11 @@ pub(crate) fn id_sections_of(alloc: Global, bytes: &[u8], head: Head) -> Result<
 }
 
 /// All parts of the file: the head, the attributes, the frames, and the ids of each event.
-pub(crate) fn sections_of(alloc: Global, head: Head, ids: &[Section]) -> Result<Vec<Section>, AllocError>
+pub(crate) fn sections_of(
+    alloc: Global,
+    head: Head,
+    ids: &[Section],
+) -> Result<Vec<Section>, AllocError>
     ensures { IfOk result (λ v. v.items ≡ places.sections_of head ids.now) }
 {
     let mut sections = Vec::new(alloc);

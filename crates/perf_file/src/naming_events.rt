@@ -42,17 +42,14 @@ fn keys_of(
     ensures none { IfOk result (λ v. All places.IsUnnamed v.items) }
     ensures keys { IfOk result (λ v. (index : ℕ) (a : perf_event_attr) (s : Section) →
         index < length sections.now → Contains v.items (places.unnamed (names.key_of
-        (opens.event_in (order_of order) bytes.now (slice_index_or attributes.now index a,
-        slice_index_or sections.now index s))))) }
+        (opens.event_in (order_of order) bytes.now (
+          slice_index_or attributes.now index a,
+          slice_index_or sections.now index s,
+        ))))) }
 {
     let mut found = Vec::new(alloc);
     for index in 0..sections.len() {
-        found.push(unnamed(key_of(
-            order,
-            bytes,
-            &attributes[index],
-            sections[index],
-        )))?;
+        found.push(unnamed(key_of(order, bytes, &attributes[index], sections[index])))?;
     }
     Ok(found)
 }
@@ -73,8 +70,10 @@ pub(crate) fn names_of(
         (λ key. first_name key (descriptions_in (order_of order) descriptions.now))) }
     ensures kept { IfOk result (λ v. (index : ℕ) (a : perf_event_attr) (s : Section) →
         index < length sections.now → places.HasRank v.items (places.rank_of (names.key_of
-        (opens.event_in (order_of order) bytes.now (slice_index_or attributes.now index a,
-        slice_index_or sections.now index s))))) }
+        (opens.event_in (order_of order) bytes.now (
+          slice_index_or attributes.now index a,
+          slice_index_or sections.now index s,
+        ))))) }
 {
     let mut found = keys_of(alloc, order, bytes, attributes, sections)?;
     find_names(order, descriptions, &mut found);

@@ -9,9 +9,10 @@ returns-then-at-out c = λ done old is at.
     let out = c.args.out.now in
     let n : length out ≡ length old = ap (λ (xs : List ℕ). length xs) is ∙ length_over done old in
     let lt : length done < length old = omega (arith, n, at, c.if-at-out.true) in
-    let place : c.args.at ≡ length done = omega (arith, n, at, lt) in
-    (ap (λ (xs : List ℕ). set xs c.args.at c.args.byte) is ∙ ap (λ k. set (over done old) k c.args.byte) place ∙ over_set done old c.args.byte lt,
-     omega (arith, place, lt, length-append done (c.args.byte ∷ [])))
+    let place : c.args.at ≡ length done = omega (arith, n, at, lt) in (
+      ap (λ (xs : List ℕ). set xs c.args.at c.args.byte) is ∙ ap (λ k. set (over done old) k c.args.byte) place ∙ over_set done old c.args.byte lt,
+      omega (arith, place, lt, length-append done (c.args.byte ∷ [])),
+    )
 
 pub returns-else-at-out : goal.returns-else-at-out
 returns-else-at-out c = λ done old is at.

@@ -37,11 +37,11 @@ loop-index-preserved c =
     let both : flat_name bytes e' ≡ described_by h bytes (get_or old i zero_event) = own ∙ ap (λ (x : FlatEvent). described_by h bytes x) same in
     record {
       names = ap (map (flat_name bytes)) (take-set_at all i (i + 1) e' (omega arith) lt)
-      ∙ map_push (flat_name bytes) (take i all) e'
-      ∙ ap (λ (xs : List Name). xs ++ flat_name bytes e' ∷ []) c.loop-index.invariant.names
-      ∙ ap (λ (x : Name). map (described_by h bytes) (take i old) ++ x ∷ []) both
-      ∙ sym (map_push (described_by h bytes) (take i old) (get_or old i zero_event))
-      ∙ ap (map (described_by h bytes)) (sym (take_more old i zero_event there));
+          ∙ map_push (flat_name bytes) (take i all) e'
+          ∙ ap (λ (xs : List Name). xs ++ flat_name bytes e' ∷ []) c.loop-index.invariant.names
+          ∙ ap (λ (x : Name). map (described_by h bytes) (take i old) ++ x ∷ []) both
+          ∙ sym (map_push (described_by h bytes) (take i old) (get_or old i zero_event))
+          ∙ ap (map (described_by h bytes)) (sym (take_more old i zero_event there));
       same = map-set_same nameless all i e' zero_event refl ∙ c.loop-index.invariant.same;
     }
 

@@ -29,9 +29,9 @@ loop-index-preserved c =
       keys = λ k a s lt. rw c.in_ok-push.ensures.items (elim (cases_lt k i) [
         | inl below ↦ contains_more found x (f (get_or ats k a) (get_or ss k s)) (c.loop-index.invariant.keys k a s below)
         | inr above ↦
-          let same : i ≡ k = omega arith in
-          let at : get_or ats i zero_attribute ≡ get_or ats k a = get_or_default ats i zero_attribute a (omega arith) ∙ ap (λ n. get_or ats n a) same in
-          let se : get_or ss i zero_section ≡ get_or ss k s = get_or_default ss i zero_section s (omega arith) ∙ ap (λ n. get_or ss n s) same in
-          subst (λ y. Contains (found ++ x ∷ []) y) (x_is ∙ ap (λ y. f y (get_or ss i zero_section)) at ∙ ap (λ y. f (get_or ats k a) y) se) (Contains-push found x)
+            let same : i ≡ k = omega arith in
+            let at : get_or ats i zero_attribute ≡ get_or ats k a = get_or_default ats i zero_attribute a (omega arith) ∙ ap (λ n. get_or ats n a) same in
+            let se : get_or ss i zero_section ≡ get_or ss k s = get_or_default ss i zero_section s (omega arith) ∙ ap (λ n. get_or ss n s) same in
+            subst (λ y. Contains (found ++ x ∷ []) y) (x_is ∙ ap (λ y. f y (get_or ss i zero_section)) at ∙ ap (λ y. f (get_or ats k a) y) se) (Contains-push found x)
       ]);
     }
