@@ -110,10 +110,19 @@ fn by_metadata<'p, B: ParseBuf<'p>>(
 ) -> ParseResult<()> {
     let (mut body, metadata) = parser.parse_metadata()?;
     digest.metadata(&metadata);
-    match metadata.ty() {
-        9 => digest.sample(&Sample::parse(&mut body)?),
-        10 => digest.mmap2(&Mmap2::parse(&mut body)?),
-        3 => digest.comm(&Comm::parse(&mut body)?),
+    read_body(&mut body, metadata.ty(), digest)
+}
+
+// Reads the body of a frame of a type.
+fn read_body<'p, B: ParseBuf<'p>>(
+    body: &mut Parser<B, Little>,
+    ty: u32,
+    digest: &mut Digest,
+) -> ParseResult<()> {
+    match ty {
+        9 => digest.sample(&Sample::parse(body)?),
+        10 => digest.mmap2(&Mmap2::parse(body)?),
+        3 => digest.comm(&Comm::parse(body)?),
         _ => digest.bytes(body.parse_rest()?.as_slice()),
     }
     Ok(())
