@@ -10,3 +10,5 @@ pub mod Placing
 pub mod Ascending
 pub mod Appending
 pub mod Drawn
+pub mod Merging
+pub mod Summing

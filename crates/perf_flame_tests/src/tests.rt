@@ -3,7 +3,7 @@
 use perf_flame::error::{FlameError, FoldedError};
 use perf_flame::flame::flame;
 use perf_flame::folded::Folded;
-use perf_flame::laws::{apart_law, escaped_law, inside_law};
+use perf_flame::laws::{apart_law, escaped_law, inside_law, merging_law, sums_law, total_law};
 use perf_flame::reading::read_lines;
 use perf_flame::stack::Stack;
 use std::test::Fail;
@@ -152,6 +152,9 @@ fn narrow_boxes_are_left_out(rt: HostRuntime) -> Result<(), Fail> {
 
 #[test]
 fn laws_do_nothing() {
+    sums_law();
+    merging_law();
+    total_law();
     inside_law();
     apart_law();
     escaped_law();
