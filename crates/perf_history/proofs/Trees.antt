@@ -46,9 +46,12 @@ pub found_leaf : (branches : List Branch) (tree : Tree) (a : ℕ) → reach tree
 found_leaf [] tree a e = refl
 found_leaf (branch ∷ older) tree a e = extended branch older tree a (omega arith) ∙ found_leaf older tree a e
 
+pub found_empty : (branches : List Branch) (a : ℕ) → found branches Empty a ≡ None
+found_empty branches a = found_leaf branches Empty a refl
+
 -- a tree that is neither split nor one number
 pub found_none : (branches : List Branch) (tree : Tree) (a : ℕ) → ((x : ℕ) → tree ≡ Split x → ⊥) → ((x : ℕ) → tree ≡ Whole x → ⊥) → found branches tree a ≡ None
-found_none branches Empty a s w = found_leaf branches Empty a refl
+found_none branches Empty a s w = found_empty branches a
 found_none branches (Whole n) a s w = absurd (w n refl)
 found_none branches (Split i) a s w = absurd (s i refl)
 

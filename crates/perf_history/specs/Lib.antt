@@ -9,3 +9,4 @@ pub mod FileNames
 pub mod Places
 pub mod Histories
 pub mod Recorded
+pub mod Memories

@@ -6,7 +6,7 @@
 //! it, the order of their bounds is tested, and what they have stays the same whatever it is.
 #![tactic(auto)]
 
-ghost use Rattle.std.specs.Prelude.{◌≡◌, ◌+◌, ◌<◌, ◌≤◌, [], length, IfOk};
+ghost use Rattle.std.specs.Prelude.{◌≡◌, ◌+◌, ◌<◌, ◌≤◌, [], length, nat_lt, IfOk, if◌then◌else◌};
 ghost use Rattle.perf_history.specs.Forests.{reach, found, Keeps, Joins, IsBranch, IsLike, IsLikeBelow, IsLikeFrom, EndsAt, Assigns, number_in};
 
 use std::alloc::{AllocError, Global};
@@ -37,6 +37,19 @@ pub struct Branch {
     pub upper: Tree,
     /// How many branches are on the longest way down, this one included.
     pub height: u8,
+}
+
+impl Branch {
+    // What it is at an address. It is chosen by its place, which is faster than by its value.
+    fn side(&self, address: u64) -> &Tree
+        ensures { result.now ≡ (if nat_lt address self.now.bound then self.now.lower else self.now.upper) }
+    {
+        if address < self.bound {
+            &self.lower
+        } else {
+            &self.upper
+        }
+    }
 }
 
 /// The branches of which trees are made.
@@ -86,11 +99,11 @@ impl Forest {
     }
 
     // The branch with this index.
-    fn branch(&self, index: u32) -> Branch
+    fn branch(&self, index: u32) -> &Branch
         requires { index < length self.now }
-        ensures { IsBranch self.now (Tree.Split index) result }
+        ensures { IsBranch self.now (Tree.Split index) result.now }
     {
-        self.branches[index as usize]
+        &self.branches[index as usize]
     }
 
     /// What a tree has at an address.
@@ -100,12 +113,7 @@ impl Forest {
     {
         let mut tree = tree;
         while let Tree::Split(index) = tree {
-            let branch = self.branch(index);
-            tree = if address < branch.bound {
-                branch.lower
-            } else {
-                branch.upper
-            };
+            tree = *self.branch(index).side(address);
         }
         match tree {
             Tree::Whole(number) => Some(number),
@@ -169,7 +177,7 @@ impl Forest {
         ensures joins { IfOk result (Joins self.old self.new lower bound upper) }
     {
         if let Tree::Split(index) = lower {
-            let branch = self.branch(index);
+            let branch = *self.branch(index);
             if branch.bound <= bound {
                 let moved = self.pair(branch.upper, bound, upper)?;
                 return self.pair(branch.lower, branch.bound, moved);
@@ -186,7 +194,7 @@ impl Forest {
         ensures joins { IfOk result (Joins self.old self.new lower bound upper) }
     {
         if let Tree::Split(index) = upper {
-            let branch = self.branch(index);
+            let branch = *self.branch(index);
             if bound <= branch.bound {
                 let moved = self.pair(lower, bound, branch.lower)?;
                 return self.pair(moved, branch.bound, branch.upper);
@@ -202,7 +210,7 @@ impl Forest {
         ensures like { IfOk result (IsLike self.old self.new tree) }
     {
         if let Tree::Split(index) = tree {
-            let branch = self.branch(index);
+            let branch = *self.branch(index);
             if self.height(branch.upper) > self.height(branch.lower) {
                 return self.turn_down(branch.lower, branch.bound, branch.upper);
             }
@@ -217,7 +225,7 @@ impl Forest {
         ensures like { IfOk result (IsLike self.old self.new tree) }
     {
         if let Tree::Split(index) = tree {
-            let branch = self.branch(index);
+            let branch = *self.branch(index);
             if self.height(branch.lower) > self.height(branch.upper) {
                 return self.turn_up(branch.lower, branch.bound, branch.upper);
             }
@@ -253,7 +261,7 @@ impl Forest {
         if self.is_taller(lower, upper)
             && let Tree::Split(index) = lower
         {
-            let branch = self.branch(index);
+            let branch = *self.branch(index);
             if branch.bound <= bound {
                 let rest = self.join(branch.upper, bound, upper)?;
                 return self.level(branch.lower, branch.bound, rest);
@@ -262,7 +270,7 @@ impl Forest {
         if self.is_taller(upper, lower)
             && let Tree::Split(index) = upper
         {
-            let branch = self.branch(index);
+            let branch = *self.branch(index);
             if bound <= branch.bound {
                 let rest = self.join(lower, bound, branch.lower)?;
                 return self.level(rest, branch.bound, branch.upper);
@@ -278,7 +286,7 @@ impl Forest {
         ensures like { IfOk result (IsLikeBelow bound self.old self.new tree) }
     {
         if let Tree::Split(index) = tree {
-            let branch = self.branch(index);
+            let branch = *self.branch(index);
             if bound <= branch.bound {
                 return self.part_below(branch.lower, bound);
             }
@@ -295,7 +303,7 @@ impl Forest {
         ensures like { IfOk result (IsLikeFrom bound self.old self.new tree) }
     {
         if let Tree::Split(index) = tree {
-            let branch = self.branch(index);
+            let branch = *self.branch(index);
             if branch.bound <= bound {
                 return self.part_from(branch.upper, bound);
             }

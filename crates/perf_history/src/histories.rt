@@ -5,6 +5,8 @@ ghost use Rattle.std.specs.Prelude.{◌≡◌, ◌<◌, ◌^◌, ℕ, Some, vec_
 ghost use Rattle.perf_history.specs.Spaces.{number_at};
 
 use crate::changes::{Change, Comm, Fork, KERNEL, Map, Mode, Symbol};
+use crate::forests::Tree;
+use crate::memories::Memory;
 use crate::names::{Name, name_or_number};
 use crate::places::{Mapping, Place};
 use crate::spaces::Spaces;
@@ -15,18 +17,19 @@ use std::collections::BTreeMap;
 #[derive(Debug, Drop)]
 pub struct History<'p> {
     names: BTreeMap<u32, Option<&'p [u8]>>,
-    spaces: Spaces,
-    mappings: Vec<Mapping<'p>>,
+    pub(crate) spaces: Spaces,
+    pub(crate) mappings: Vec<Mapping<'p>>,
     ghost known: { (space address index : ℕ) → address < 2 ^ 64 →
         number_at spaces space address ≡ Some index → index < vec_len mappings },
 }
 
 impl<'p> History<'p> {
-    ghost use Rattle.std.specs.Prelude.{List, [], ◌∷◌, OnOk, OnErr, IsOk, IsSome, length, option_copied};
+    ghost use Rattle.std.specs.Prelude.{List, [], ◌∷◌, OnOk, OnErr, IsOk, IsSome, length};
     ghost use Rattle.std.specs.BTreeMap.{get};
     ghost use Rattle.std.specs.Ordering.{nat_cmp};
     ghost use Rattle.perf_history.specs.Histories.{name_of, place_of};
-    ghost use Rattle.perf_history.specs.Recorded.{IsHistory, IsSame, Sets, Copies, Inherits, Forks, Names, name_in, mapping_in};
+    ghost use Rattle.perf_history.specs.Recorded.{IsHistory, IsSame, Sets, Copies, Inherits, Forks, Names, name_in};
+    ghost use Rattle.perf_history.specs.Memories.{IsMemory};
     ghost use Rattle.perf_history.specs.declared.changes.Change.{Change};
 
     /// The history before anything happened.
@@ -59,14 +62,6 @@ impl<'p> History<'p> {
     {
         self.names.insert(tid, name)?;
         Ok(())
-    }
-
-    // The mapping at an address.
-    fn mapping(&self, space: u32, address: u64) -> Option<&Mapping<'p>>
-        ensures { option_copied result ≡ mapping_in self.now space address }
-    {
-        let index = self.spaces.find(space, address)?;
-        Some(&self.mappings[index as usize])
     }
 
     // Puts a mapping in a range.
@@ -111,14 +106,30 @@ impl<'p> History<'p> {
         name_or_number(self.name(tid), tid)
     }
 
+    /// The memory in which a process runs code in this mode; that of a hypervisor or a guest is not
+    /// known.
+    #[tactic(auto, using(crate::proofs::Trees::found_empty))]
+    pub fn memory(&self, pid: u32, mode: Mode) -> Memory<'_, 'p>
+        ensures { (changes : List Change) → IsHistory self.now changes → IsMemory result changes pid mode }
+    {
+        let Some(space) = mode.space_at(pid) else {
+            return Memory {
+                history: self,
+                tree: Tree::Empty,
+            };
+        };
+        Memory {
+            history: self,
+            tree: self.spaces.tree(space),
+        }
+    }
+
     /// What is mapped at an address at which a process runs code in this mode.
     pub fn place(&self, pid: u32, mode: Mode, address: u64) -> Option<Place<'p>>
         ensures { (changes : List Change) → IsHistory self.now changes →
             result ≡ place_of changes pid mode address }
     {
-        let space = mode.space_at(pid)?;
-        let mapping = self.mapping(space, address)?;
-        Some(mapping.place(address))
+        self.memory(pid, mode).place(address)
     }
 
     // A new process has the memory of its parent, if it is one that has.

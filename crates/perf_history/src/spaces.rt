@@ -2,7 +2,7 @@
 #![tactic(auto)]
 
 ghost use Rattle.std.specs.Prelude.{ℕ, ◌≤◌, length};
-ghost use Rattle.perf_history.specs.Forests.{reach};
+ghost use Rattle.perf_history.specs.Forests.{found, reach};
 ghost use Rattle.perf_history.specs.Trees.{tree_in};
 
 use crate::forests::{Forest, Tree};
@@ -39,9 +39,10 @@ impl Spaces {
         self.forest.len()
     }
 
-    // The tree of an address space.
-    fn tree(&self, space: u32) -> Tree
-        ensures { result ≡ tree_in self.now.trees space }
+    /// The tree of an address space.
+    pub fn tree(&self, space: u32) -> Tree
+        ensures value { result ≡ tree_in self.now.trees space }
+        ensures inside { reach result ≤ length self.now.forest }
     {
         match self.trees.get(&space) {
             Some(tree) => *tree,
@@ -49,11 +50,12 @@ impl Spaces {
         }
     }
 
-    /// What is at an address.
-    pub fn find(&self, space: u32, address: u64) -> Option<u32>
-        ensures { result ≡ number_at self.now space address }
+    /// What a tree has at an address.
+    pub fn find(&self, tree: Tree, address: u64) -> Option<u32>
+        requires { reach tree ≤ length self.now.forest }
+        ensures { result ≡ found self.now.forest tree address }
     {
-        self.forest.find(self.tree(space), address)
+        self.forest.find(tree, address)
     }
 
     // Gives an address space a tree.

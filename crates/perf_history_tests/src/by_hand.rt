@@ -191,7 +191,7 @@ fn at(
     mode: Mode,
     address: u64,
 ) -> Option<(File<'static>, u64)> {
-    match history.place(pid, mode, address) {
+    match history.memory(pid, mode).place(address) {
         Some(place) => Some((place.file, place.offset)),
         None => None,
     }

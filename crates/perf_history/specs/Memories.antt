@@ -1,0 +1,23 @@
+-- What is mapped in one memory.
+use Rattle.std.specs.Prelude.{◌≡◌, ℕ, ◌<◌, ◌^◌, List, Option, slice_get, option_map, option_and_then}
+use Rattle.perf_history.specs.Forests.{found}
+use Rattle.perf_history.specs.Histories.{place_of}
+use Rattle.perf_history.specs.Places.{place_in}
+use Rattle.perf_history.specs.declared.changes.Change.{Change}
+use Rattle.perf_history.specs.declared.changes.Mode.{Mode}
+use Rattle.perf_history.specs.declared.memories.Memory.{Memory}
+use Rattle.perf_history.specs.declared.places.Mapping.{Mapping}
+use Rattle.perf_history.specs.declared.places.Place.{Place}
+
+-- the mapping at an address
+abbrev pub mapped : Memory → (address : ℕ) → Option Mapping
+mapped memory address =
+    option_and_then (slice_get memory.history.now.mappings.items) (found memory.history.now.spaces.forest memory.tree address)
+
+-- what is at an address
+abbrev pub place_at : Memory → (address : ℕ) → Option Place
+place_at memory address = option_map (λ m. place_in m address) (mapped memory address)
+
+-- it is the memory in which a process runs code in a mode after these changes
+abbrev pub IsMemory : Memory → List Change → (pid : ℕ) → Mode → Type 0
+IsMemory memory changes pid mode = (address : ℕ) → address < 2 ^ 64 → place_at memory address ≡ place_of changes pid mode address
