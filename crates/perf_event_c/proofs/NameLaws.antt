@@ -115,6 +115,9 @@ pub record HasHead (bytes : List ℕ) (f : File) : Type 0 where
   pub order : f.order ≡ head.order
   pub descriptions : file_descriptions bytes ≡ descriptions_of bytes head
 
+descriptions_are : (bytes : List ℕ) (h : Head) → head_in bytes ≡ Ok h → file_descriptions bytes ≡ descriptions_of bytes h
+descriptions_are bytes h is = rw is refl
+
 pub head_of_file : (bytes : List ℕ) (f : File) → opened bytes ≡ Ok f → HasHead bytes f
 unfolding opened
 head_of_file bytes f whole =
@@ -124,7 +127,7 @@ head_of_file bytes f whole =
     let j = bind_ok (checked_features d.0) (λ features. checked_parts bytes d.0 >>= λ parts. Ok d.0) g.0 d.2 in
     let l = bind_ok (checked_parts bytes d.0) (λ parts. Ok d.0) g.0 j.2 in
     let same : d.0 ≡ g.0 = let c = l.2 in cc in
-    let own : file_descriptions bytes ≡ descriptions_of bytes d.0 = rw d.1 refl in
+    let own : file_descriptions bytes ≡ descriptions_of bytes d.0 = descriptions_are bytes d.0 d.1 in
     record {
       head = g.0;
       checked = g.1;
