@@ -116,7 +116,7 @@ pub record HasHead (bytes : List ℕ) (f : File) : Type 0 where
   pub descriptions : file_descriptions bytes ≡ descriptions_of bytes head
 
 descriptions_are : (bytes : List ℕ) (h : Head) → head_in bytes ≡ Ok h → file_descriptions bytes ≡ descriptions_of bytes h
-descriptions_are bytes h is = rw is refl
+descriptions_are bytes h is = rw (file_descriptions, is) refl
 
 pub head_of_file : (bytes : List ℕ) (f : File) → opened bytes ≡ Ok f → HasHead bytes f
 unfolding opened
