@@ -36,7 +36,7 @@ RETURNS = {
     "perf_samples": "lines of samples",
     "perf_count": "three numbers",
 }
-FACES = ("perf_event_data", "perf_event_c", "perf_file", "perf_history")
+FACES = ("perf_event_data", "perf_event_c", "perf_file", "perf_history", "perf_flame")
 OTHERS = {
     "Examples and measurements": ["perf_uses", "perf_bench"],
     "Tests": ["perf_value_tests", "perf_program_tests", "perf_unit_tests", "perf_file_tests", "perf_history_tests", "perf_flame_tests",
@@ -93,15 +93,18 @@ def uses_of_crates():
 
 
 def levels_of(uses):
-    """The level of each crate: above all that it uses; of programs the highest, and of one that uses none below its users."""
+    """The level of each crate: above all that it uses; of programs the highest, and of one that uses none below those of its users
+    that use others too."""
     levels = {}
     for _ in uses:
         for name, used in uses.items():
             levels[name] = 1 + max((levels.get(it, 0) for it in used), default=-1)
     for name, used in uses.items():
-        users = [levels[it] for it in uses if name in uses[it]]
+        users = [it for it in uses if name in uses[it]]
         if not used:
-            levels[name] = min(users, default=1) - 1
+            levels[name] = min((levels[it] for it in users if len(uses[it]) > 1), default=1) - 1
+        elif not any(uses[it] for it in used):
+            levels[name] = 1 + max(levels[it] for it in used)
         elif not users and name not in FACES:
             levels[name] = max(levels.values())
     return levels
