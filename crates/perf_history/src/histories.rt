@@ -187,7 +187,8 @@ impl<'p> History<'p> {
         }
     }
 
-    /// How many branches it has made of 32 bytes each, besides 80 bytes a mapping. It frees none.
+    /// How many branches it has made, of 32 bytes each: besides them it needs 88 bytes a mapping. It
+    /// keeps them all.
     pub fn branch_count(&self) -> usize
         ensures { result ≡ length self.now.spaces.forest }
     {
