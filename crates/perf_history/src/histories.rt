@@ -108,7 +108,7 @@ impl<'p> History<'p> {
 
     /// The memory in which a process runs code in this mode; that of a hypervisor or a guest is not
     /// known.
-    #[tactic(auto, using(crate::proofs::Trees::found_empty))]
+    #[tactic(auto, using(crate::proofs::Trees::found_empty), unfolding(crate::specs::Memories::place_at))]
     pub fn memory(&self, pid: u32, mode: Mode) -> Memory<'_, 'p>
         ensures { (changes : List Change) → IsHistory self.now changes → IsMemory result changes pid mode }
     {
