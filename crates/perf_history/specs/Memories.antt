@@ -15,9 +15,9 @@ mapped memory address =
     option_and_then (slice_get memory.history.now.mappings.items) (found memory.history.now.spaces.forest memory.tree address)
 
 -- what is at an address
-abbrev pub place_at : Memory → (address : ℕ) → Option Place
+unfoldable pub place_at : Memory → (address : ℕ) → Option Place
 place_at memory address = option_map (λ m. place_in m address) (mapped memory address)
 
 -- it is the memory in which a process runs code in a mode after these changes
-abbrev pub IsMemory : Memory → List Change → (pid : ℕ) → Mode → Type 0
-IsMemory memory changes pid mode = (address : ℕ) → address < 2 ^ 64 → place_at memory address ≡ place_of changes pid mode address
+pub record IsMemory (memory : Memory) (changes : List Change) (pid : ℕ) (mode : Mode) : Type 0 where
+  pub places : (address : ℕ) → address < 2 ^ 64 → place_at memory address ≡ place_of changes pid mode address

@@ -3,7 +3,7 @@ use Rattle.std.specs.Prelude.{ℕ, ◌==◌, ◌%◌, Option, Some, None, if◌t
 use Rattle.perf_history.specs.declared.changes.Mode.{Mode}
 use Rattle.perf_history.specs.declared.changes.Mode.TheVariants.{Kernel, User, Other}
 
--- the address space of the kernel: that of process -1
+-- the address space of the kernel: that of process -1, which is 2^32 - 1
 abbrev pub kernel : ℕ
 kernel = 4294967295
 

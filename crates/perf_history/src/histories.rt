@@ -108,7 +108,7 @@ impl<'p> History<'p> {
 
     /// The memory in which a process runs code in this mode; that of a hypervisor or a guest is not
     /// known.
-    #[tactic(auto, using(crate::proofs::Trees::found_empty))]
+    #[tactic(auto, using(crate::proofs::Trees::found_empty), unfolding(crate::specs::Memories::place_at))]
     pub fn memory(&self, pid: u32, mode: Mode) -> Memory<'_, 'p>
         ensures { (changes : List Change) → IsHistory self.now changes → IsMemory result changes pid mode }
     {
@@ -187,7 +187,8 @@ impl<'p> History<'p> {
         }
     }
 
-    /// How many branches it has made of 32 bytes each, besides 80 bytes a mapping. It frees none.
+    /// How many branches it has made, of 32 bytes each: besides them it needs 88 bytes a mapping. It
+    /// keeps them all.
     pub fn branch_count(&self) -> usize
         ensures { result ≡ length self.now.spaces.forest }
     {

@@ -23,6 +23,7 @@ impl<'h, 'p> Memory<'h, 'p> {
     ghost use Rattle.perf_history.specs.Memories.{place_at};
 
     /// What is mapped at an address.
+    #[tactic(auto, unfolding(crate::specs::Memories::place_at))]
     pub fn place(&self, address: u64) -> Option<Place<'p>>
         ensures { result ≡ place_at self.now address }
     {

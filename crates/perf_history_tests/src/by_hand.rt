@@ -1,6 +1,7 @@
 //! Names and places as perf finds them: `thread__fork`, `map__new` and
 //! `machine__process_ksymbol` of its sources.
 
+use crate::using::{name_after_two, place_after_one};
 use perf_history::{
     Change, Comm, File, Fork, History, Identity, Inode, Map, Mode, Name, Place, Symbol,
     keeps_address,
@@ -228,10 +229,17 @@ const HEAP: Map<'static> = Map {
 };
 
 #[test]
+fn a_thread_of_another(rt: HostRuntime) -> Result<(), AllocError> {
+    let named = change_of(Step::Comm(7, b"sh"));
+    let made = change_of(Step::Thread(7, 8));
+    let name = name_after_two(rt.alloc(), named, made, 8)?;
+    assert!(rt; name == Name::Given(b"sh"));
+    Ok(())
+}
+
+#[test]
 fn a_whole_place(rt: HostRuntime) -> Result<(), AllocError> {
-    let mut history = History::new(rt.alloc());
-    history.apply(Change::Map(HEAP))?;
-    let place = history.place(7, Mode::User, 0x1fff);
+    let place = place_after_one(rt.alloc(), Change::Map(HEAP), 7, 0x1fff)?;
     let expected = Place {
         file: File::Named(b"[heap]"),
         offset: 0x1fff,

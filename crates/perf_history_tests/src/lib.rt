@@ -10,3 +10,5 @@ mod generated;
 mod hostile;
 #[cfg(test)]
 mod searching;
+#[cfg(test)]
+mod using;
