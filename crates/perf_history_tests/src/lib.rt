@@ -3,12 +3,4 @@
 #![tactic(auto)]
 
 #[cfg(test)]
-mod by_hand;
-#[cfg(test)]
-mod generated;
-#[cfg(test)]
-mod hostile;
-#[cfg(test)]
-mod searching;
-#[cfg(test)]
-mod using;
+mod tests;

@@ -2,7 +2,7 @@
 
 ghost use Rattle.std.specs.Prelude.{◌<◌};
 
-use crate::searching::{name_back, place_back};
+use crate::tests::searching::{name_back, place_back};
 use perf_history::{Change, Comm, Fork, History, Identity, Map, Mode, Symbol};
 use std::alloc::{AllocError, Global};
 

@@ -1,7 +1,7 @@
 //! Names and places as perf finds them: `thread__fork`, `map__new` and
 //! `machine__process_ksymbol` of its sources.
 
-use crate::using::{name_after_two, place_after_one};
+use crate::tests::using::{name_after_two, place_after_one};
 use perf_history::{
     Change, Comm, File, Fork, History, Identity, Inode, Map, Mode, Name, Place, Symbol,
     keeps_address,
