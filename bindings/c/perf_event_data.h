@@ -234,9 +234,8 @@ uint32_t ped_identifier(const uint8_t *bytes, size_t len, uint32_t order, uint32
  *
  * A file is in memory as a whole, mapped or read. ped_file_open states how much memory its events
  * need, ped_file_events reads them, ped_file_names finds their names, ped_file_next goes over its frames
- * in the order of the file,
- * ped_file_sort puts their entries in order of time, and ped_file_read reads frames, each under its own
- * event. */
+ * in the order of the file, ped_file_sort puts their entries in order of time, and ped_file_read reads
+ * frames, each under its own event. */
 
 /* Why a file is refused: the first check that fails, in the order of the numbers. Events are numbered
  * from 0, in the order of the file. */
