@@ -4,12 +4,13 @@ ghost use Rattle.std.specs.Prelude.{◌≡◌, ◌≢◌, ◌<◌, ◌≤◌, tr
 ghost use Rattle.std.specs.Prelude.{IsTrue, IsOk, OnOk, IfOk, IfErr, IfSome, MatchOption};
 ghost use Rattle.perf_buffers.specs.Prelude.{kind_of, refusal_kind, kind_if_refused, kinds, kind_if_failed, BufferInvariant};
 ghost use Rattle.perf_buffers.specs.Prelude.{CanFail, Takes, FailsToTake, FailsToKeep};
+ghost use Rattle.perf_buffers.specs.Cutting.{BorrowsWhole, WholeNeedsNoMemory, RefusesShort, AllocatesFirst, KeepsNext, RefusesNext};
 ghost use Rattle.perf_buffers.specs.Prelude as prelude;
 
 use crate::cursor::{Content, ParseBufCursor};
 use crate::fill::append;
 use crate::parsebuf::{ParseBuf, ParseBufChunk};
-use perf_base::{ErrorKind, Kept, ParseError, ParseResult, ReadResult, Refusal};
+use perf_base::{ErrorKind, Kept, ParseResult, ReadResult, Refusal};
 use std::alloc::Global;
 
 // The capacity allocated first if the buffer does not report how many bytes it has.
@@ -30,18 +31,15 @@ fn cut_at_once<'p, B: ParseBuf<'p>>(
     ensures whole { IsTrue (B.source buf.old).whole → IfOk result (λ o. MatchOption o
         (IsTrue (B.source buf.old).told × (length (B.source buf.old).left < len))
         (λ content. IsTrue (prelude.content_is_borrowed content))) }
-    ensures whole_memory { IsTrue (B.source buf.old).whole → prelude.NeedsNoMemory (kinds result) }
-    ensures beforehand { IsTrue (B.source buf.old).told → IfErr result (λ e.
-        refusal_kind e ≡ ErrorKind.OutOfMemory →
-        (B.source buf.new).left ≡ (B.source buf.old).left) }
+    ensures whole_memory { WholeNeedsNoMemory (B.source buf.old) (kinds result) }
+    ensures beforehand { AllocatesFirst true (B.source buf.old) (kinds result) (B.source buf.new) }
     ensures count { IfOk result (λ o. IfSome o (λ content. length (prelude.content_left content) ≡ len)) }
     ensures start { IfOk result (λ o. IfSome o (λ content. prelude.ContentIsAtStart content)) }
     ensures ok { IsTrue (B.source buf.old).told → IfOk result (λ o. MatchOption o
         ((B.source buf.new).left ≡ (B.source buf.old).left)
         (λ content. Takes (B.source buf.old) len (B.source buf.new)
         × (prelude.content_left content ≡ take len (B.source buf.old).left))) }
-    ensures err { IsTrue (B.source buf.old).told → IfErr result (λ e.
-        FailsToKeep (B.source buf.old) len (refusal_kind e) (B.source buf.new)) }
+    ensures err { RefusesNext (B.source buf.old) len (kinds result) (B.source buf.new) }
 {
     let chunk = match buf.chunk() {
         Ok(chunk) => chunk,
@@ -128,52 +126,26 @@ fn capacity_for(has_hint: bool, len: usize) -> usize
 // Assembles the next `len` bytes in `bytes`, replacing its contents. Its capacity is kept.
 pub(crate) fn assemble<'p, B: ParseBuf<'p>>(
     buf: &mut B,
+    cause: &mut Kept,
     bytes: &mut Vec<u8>,
     len: usize,
     has_hint: bool,
-) -> ParseResult<()>
-    ensures stays { BufferInvariant (B.source buf.old) (kind_if_failed result) (B.source buf.new) }
-    ensures can_fail { CanFail (B.source buf.old) (kind_if_failed result) }
-    ensures beforehand { IsTrue (B.source buf.old).told → prelude.makes_all_room has_hint len ≡ true →
-        IfErr result (λ e. kind_of e ≡ ErrorKind.OutOfMemory →
-        (B.source buf.new).left ≡ (B.source buf.old).left) }
+) -> ReadResult<()>
+    ensures stays { BufferInvariant (B.source buf.old) (kind_if_refused (kinds result)) (B.source buf.new) }
+    ensures can_fail { CanFail (B.source buf.old) (kind_if_refused (kinds result)) }
+    ensures beforehand { AllocatesFirst (prelude.makes_all_room has_hint len) (B.source buf.old)
+        (kinds result) (B.source buf.new) }
     ensures count { OnOk result (length bytes.new.items ≡ len) }
-    ensures ok { IsTrue (B.source buf.old).told →
-        OnOk result (Takes (B.source buf.old) len (B.source buf.new)
-        × (bytes.new.items ≡ take len (B.source buf.old).left)) }
-    ensures err { IsTrue (B.source buf.old).told →
-        IfErr result (λ e. FailsToKeep (B.source buf.old) len (kind_of e) (B.source buf.new)) }
+    ensures ok { KeepsNext (λ _. bytes.new.items) (B.source buf.old) len (kinds result) (B.source buf.new) }
+    ensures err { RefusesNext (B.source buf.old) len (kinds result) (B.source buf.new) }
 {
     bytes.clear();
     if bytes.reserve_exact(capacity_for(has_hint, len)).is_err() {
-        return Err(ParseError::out_of_memory());
+        return Err(Refusal::OutOfMemory);
     }
-    append(buf, bytes, len)
-}
-
-// The next `len` bytes, copied.
-fn copy<'p, B: ParseBuf<'p>>(
-    alloc: Global,
-    buf: &mut B,
-    len: usize,
-    has_hint: bool,
-) -> ParseResult<Vec<u8>>
-    ensures stays { BufferInvariant (B.source buf.old) (kind_if_failed result) (B.source buf.new) }
-    ensures can_fail { CanFail (B.source buf.old) (kind_if_failed result) }
-    ensures beforehand { IsTrue (B.source buf.old).told → prelude.makes_all_room has_hint len ≡ true →
-        IfErr result (λ e. kind_of e ≡ ErrorKind.OutOfMemory →
-        (B.source buf.new).left ≡ (B.source buf.old).left) }
-    ensures count { IfOk result (λ v. length v.items ≡ len) }
-    ensures ok { IsTrue (B.source buf.old).told →
-        IfOk result (λ v. Takes (B.source buf.old) len (B.source buf.new)
-        × (v.items ≡ take len (B.source buf.old).left)) }
-    ensures err { IsTrue (B.source buf.old).told →
-        IfErr result (λ e. FailsToKeep (B.source buf.old) len (kind_of e) (B.source buf.new)) }
-{
-    let mut bytes = Vec::new(alloc);
-    match assemble(buf, &mut bytes, len, has_hint) {
-        Ok(()) => Ok(bytes),
-        Err(error) => Err(error),
+    match append(buf, bytes, len) {
+        Ok(()) => Ok(()),
+        Err(error) => Err(cause.keep(error)),
     }
 }
 
@@ -201,22 +173,19 @@ fn cut_slowly<'p, B: ParseBuf<'p>>(
 ) -> ReadResult<ParseBufCursor<'p>>
     ensures stays { BufferInvariant (B.source buf.old) (kind_if_refused (kinds result)) (B.source buf.new) }
     ensures can_fail { CanFail (B.source buf.old) (kind_if_refused (kinds result)) }
-    ensures beforehand { IsTrue (B.source buf.old).told → prelude.makes_all_room has_hint len ≡ true →
-        IfErr result (λ e. refusal_kind e ≡ ErrorKind.OutOfMemory →
-        (B.source buf.new).left ≡ (B.source buf.old).left) }
-    ensures count { IfOk result (λ c. length (prelude.content_left c.content) ≡ len) }
-    ensures start { IfOk result (λ c. prelude.ContentIsAtStart c.content) }
-    ensures ok { IsTrue (B.source buf.old).told → IfOk result (λ c.
-        Takes (B.source buf.old) len (B.source buf.new)
-        × (prelude.content_left c.content ≡ take len (B.source buf.old).left)) }
-    ensures err { IsTrue (B.source buf.old).told → IfErr result (λ e.
-        FailsToKeep (B.source buf.old) len (refusal_kind e) (B.source buf.new)) }
+    ensures beforehand { AllocatesFirst (prelude.makes_all_room has_hint len) (B.source buf.old)
+        (kinds result) (B.source buf.new) }
+    ensures count { IfOk result (λ c. length (prelude.cursor_left c) ≡ len) }
+    ensures start { IfOk result (λ c. prelude.IsAtStart c) }
+    ensures ok { KeepsNext prelude.cursor_left (B.source buf.old) len (kinds result) (B.source buf.new) }
+    ensures err { RefusesNext (B.source buf.old) len (kinds result) (B.source buf.new) }
 {
-    match copy(alloc, buf, len, has_hint) {
-        Ok(bytes) => Ok(ParseBufCursor {
+    let mut bytes = Vec::new(alloc);
+    match assemble(buf, cause, &mut bytes, len, has_hint) {
+        Ok(()) => Ok(ParseBufCursor {
             content: Content::Own(bytes, 0),
         }),
-        Err(error) => Err(cause.keep(error)),
+        Err(refusal) => Err(refusal),
     }
 }
 
@@ -230,24 +199,17 @@ pub(crate) fn cut<'p, B: ParseBuf<'p>>(
 ) -> ReadResult<ParseBufCursor<'p>>
     ensures stays { BufferInvariant (B.source buf.old) (kind_if_refused (kinds result)) (B.source buf.new) }
     ensures can_fail { CanFail (B.source buf.old) (kind_if_refused (kinds result)) }
-    ensures whole { IsTrue (B.source buf.old).whole →
-        IfOk result (λ c. IsTrue (prelude.content_is_borrowed c.content)) }
-    ensures whole_memory { IsTrue (B.source buf.old).whole → prelude.NeedsNoMemory (kinds result) }
-    ensures nothing { len ≡ 0 → IfOk result (λ c. IsTrue (prelude.content_is_borrowed c.content)) × IsOk result
+    ensures whole { BorrowsWhole prelude.cursor_is_borrowed (B.source buf.old) (kinds result) }
+    ensures whole_memory { WholeNeedsNoMemory (B.source buf.old) (kinds result) }
+    ensures nothing { len ≡ 0 → IfOk result (λ c. IsTrue (prelude.cursor_is_borrowed c)) × IsOk result
         × (B.source buf.new ≡ B.source buf.old) }
-    ensures short { prelude.falls_short (B.hint buf.old) len ≡ true →
-        prelude.NeedsNoMemory (kinds result) × IfOk result (λ c. ⊥) }
-    ensures beforehand { IsTrue (B.source buf.old).told →
-        prelude.is_made_beforehand (B.hint buf.old) len ≡ true →
-        IfErr result (λ e. refusal_kind e ≡ ErrorKind.OutOfMemory →
-        (B.source buf.new).left ≡ (B.source buf.old).left) }
-    ensures ok { IsTrue (B.source buf.old).told → IfOk result (λ c.
-        Takes (B.source buf.old) len (B.source buf.new)
-        × (prelude.content_left c.content ≡ take len (B.source buf.old).left)) }
-    ensures start { IfOk result (λ c. prelude.ContentIsAtStart c.content) }
-    ensures count { IfOk result (λ c. length (prelude.content_left c.content) ≡ len) }
-    ensures err { IsTrue (B.source buf.old).told → IfErr result (λ e.
-        FailsToKeep (B.source buf.old) len (refusal_kind e) (B.source buf.new)) }
+    ensures short { RefusesShort (B.hint buf.old) len (kinds result) }
+    ensures beforehand { AllocatesFirst (prelude.is_made_beforehand (B.hint buf.old) len)
+        (B.source buf.old) (kinds result) (B.source buf.new) }
+    ensures ok { KeepsNext prelude.cursor_left (B.source buf.old) len (kinds result) (B.source buf.new) }
+    ensures start { IfOk result (λ c. prelude.IsAtStart c) }
+    ensures count { IfOk result (λ c. length (prelude.cursor_left c) ≡ len) }
+    ensures err { RefusesNext (B.source buf.old) len (kinds result) (B.source buf.new) }
 {
     if len == 0 {
         return Ok(ParseBufCursor {

@@ -1,14 +1,15 @@
 //! Readers of the bytes of one frame, in place or assembled.
 
-ghost use Rattle.std.specs.Prelude.{◌≡◌, ◌<◌, ◌≤◌, ◌*◌, ℕ, Bool, List, length, true, IsTrue};
-ghost use Rattle.std.specs.Prelude.{IfOk, IfErr, OnErr};
+ghost use Rattle.std.specs.Prelude.{◌≡◌, ◌<◌, ◌≤◌, ◌*◌, ℕ, Bool, List, length, IsTrue};
+ghost use Rattle.std.specs.Prelude.{IfOk, OnErr};
+ghost use Rattle.perf_buffers.specs.Cutting.{AllocatesFirst, RefusesNext};
 ghost use Rattle.perf_buffers.specs.FrameBytes.{GivesNextBytes, FindsFrame};
-ghost use Rattle.perf_buffers.specs.Prelude.{chunk_bytes, chunk_is_borrowed, kinds, kind_if_refused, refusal_kind, BufferInvariant};
-ghost use Rattle.perf_buffers.specs.Prelude.{CanFail, NeedsNoMemory, FailsToKeep, makes_all_room};
+ghost use Rattle.perf_buffers.specs.Prelude.{chunk_bytes, chunk_is_borrowed, kinds, kind_if_refused, BufferInvariant};
+ghost use Rattle.perf_buffers.specs.Prelude.{CanFail, NeedsNoMemory, makes_all_room};
 
 use crate::cut::assemble;
 use crate::parsebuf::{ParseBuf, ParseBufChunk};
-use perf_base::{Endian, ErrorKind, Kept, ReadResult};
+use perf_base::{Endian, Kept, ReadResult};
 
 /// Makes something of the bytes of a frame, and of a state of the caller.
 pub trait FrameReader<'p, S>: Drop {
@@ -54,8 +55,7 @@ pub(crate) fn read_in_place<'p, S, B: ParseBuf<'p>, F: FrameReader<'p, S>>(
     ensures ok { IfOk result (λ found. FindsFrame (F.gives reader) reader (B.source buf.old) len
         state.old found (B.source buf.new) state.new) }
     ensures same { OnErr result (state.new ≡ state.old) }
-    ensures err { IsTrue (B.source buf.old).told → IfErr result (λ e.
-        FailsToKeep (B.source buf.old) len (refusal_kind e) (B.source buf.new)) }
+    ensures err { RefusesNext (B.source buf.old) len (kinds result) (B.source buf.new) }
 {
     let chunk = match buf.chunk() {
         Ok(chunk) => chunk,
@@ -88,21 +88,19 @@ pub(crate) fn read_assembled<'p, S, B: ParseBuf<'p>, F: FrameReader<'p, S>>(
     requires { F.len reader ≡ len }
     ensures stays { BufferInvariant (B.source buf.old) (kind_if_refused (kinds result)) (B.source buf.new) }
     ensures can_fail { CanFail (B.source buf.old) (kind_if_refused (kinds result)) }
-    ensures beforehand { IsTrue (B.source buf.old).told → makes_all_room has_hint len ≡ true →
-        IfErr result (λ e. refusal_kind e ≡ ErrorKind.OutOfMemory →
-        (B.source buf.new).left ≡ (B.source buf.old).left) }
+    ensures beforehand { AllocatesFirst (makes_all_room has_hint len) (B.source buf.old)
+        (kinds result) (B.source buf.new) }
     ensures ok { (IsTrue (B.source buf.old).whole → ⊥) → IfOk result (λ output.
         GivesNextBytes (F.gives reader) (B.source buf.old) len state.old output (B.source buf.new)
         state.new) }
     ensures same { OnErr result (state.new ≡ state.old) }
-    ensures err { IsTrue (B.source buf.old).told → IfErr result (λ e.
-        FailsToKeep (B.source buf.old) len (refusal_kind e) (B.source buf.new)) }
+    ensures err { RefusesNext (B.source buf.old) len (kinds result) (B.source buf.new) }
 {
-    match assemble(buf, room, len, has_hint) {
+    match assemble(buf, cause, room, len, has_hint) {
         Ok(()) => Ok(reader.read(state, ParseBufChunk::Temporary(room.as_slice()))),
-        Err(error) => {
+        Err(refusal) => {
             drop(reader);
-            Err(cause.keep(error))
+            Err(refusal)
         }
     }
 }

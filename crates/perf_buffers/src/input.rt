@@ -7,8 +7,9 @@
 
 ghost use Rattle.std.specs.Prelude.{◌≡◌, ℕ, ◌<◌, ◌≤◌, [], length, take, drop, true, false, Some};
 ghost use Rattle.std.specs.Prelude.{None, Option, IsTrue, IsOk, OnOk, IfOk, IfErr, IfSome};
-ghost use Rattle.perf_buffers.specs.Prelude.{refusal_kind, kinds, kind_if_refused, Eof, OutOfMemory, BufferInvariant};
-ghost use Rattle.perf_buffers.specs.Prelude.{CanFail, Takes, FailsToTake, FailsToKeep, NeedsNoMemory};
+ghost use Rattle.perf_buffers.specs.Prelude.{refusal_kind, kinds, kind_if_refused, Eof, BufferInvariant};
+ghost use Rattle.perf_buffers.specs.Prelude.{CanFail, Takes, FailsToTake, NeedsNoMemory};
+ghost use Rattle.perf_buffers.specs.Cutting.{BorrowsWhole, WholeNeedsNoMemory, RefusesShort, AllocatesFirst, KeepsNext, RefusesNext};
 ghost use Rattle.perf_buffers.specs.Prelude as prelude;
 
 use crate::cursor::ParseBufCursor;
@@ -62,9 +63,8 @@ pub trait Input<'p> {
     fn take_rest(&mut self, alloc: Global) -> ReadResult<CowSlice<'p, u8>>
         ensures stays { BufferInvariant (source self.old) (kind_if_refused (kinds result)) (source self.new) }
         ensures can_fail { CanFail (source self.old) (kind_if_refused (kinds result)) }
-        ensures whole { IsTrue (source self.old).whole →
-            IfOk result (λ c. IsTrue (prelude.is_borrowed c)) }
-        ensures whole_memory { IsTrue (source self.old).whole → NeedsNoMemory (kinds result) }
+        ensures whole { BorrowsWhole prelude.is_borrowed (source self.old) (kinds result) }
+        ensures whole_memory { WholeNeedsNoMemory (source self.old) (kinds result) }
         ensures nothing { IsTrue (source self.old).told → (source self.old).left ≡ [] →
             NeedsNoMemory (kinds result) × IfOk result (λ c. IsTrue (prelude.is_borrowed c)) }
         ensures ok { IsTrue (source self.old).told → IfOk result (λ c.
@@ -78,23 +78,17 @@ pub trait Input<'p> {
     fn cut(&mut self, alloc: Global, len: usize) -> ReadResult<ParseBufCursor<'p>>
         ensures stays { BufferInvariant (source self.old) (kind_if_refused (kinds result)) (source self.new) }
         ensures can_fail { CanFail (source self.old) (kind_if_refused (kinds result)) }
-        ensures whole { IsTrue (source self.old).whole →
-            IfOk result (λ c. IsTrue (prelude.cursor_is_borrowed c)) }
-        ensures whole_memory { IsTrue (source self.old).whole → NeedsNoMemory (kinds result) }
+        ensures whole { BorrowsWhole prelude.cursor_is_borrowed (source self.old) (kinds result) }
+        ensures whole_memory { WholeNeedsNoMemory (source self.old) (kinds result) }
         ensures nothing { len ≡ 0 → IfOk result (λ c. IsTrue (prelude.cursor_is_borrowed c)) × IsOk result
             × (source self.new ≡ source self.old) }
-        ensures short { prelude.falls_short (hint self.old) len ≡ true →
-            NeedsNoMemory (kinds result) × IfOk result (λ c. ⊥) }
-        ensures beforehand { IsTrue (source self.old).told →
-            prelude.is_made_beforehand (hint self.old) len ≡ true → IfErr result (λ e.
-            refusal_kind e ≡ OutOfMemory → (source self.new).left ≡ (source self.old).left) }
-        ensures ok { IsTrue (source self.old).told → IfOk result (λ c.
-            Takes (source self.old) len (source self.new)
-            × (prelude.cursor_left c ≡ take len (source self.old).left)) }
+        ensures short { RefusesShort (hint self.old) len (kinds result) }
+        ensures beforehand { AllocatesFirst (prelude.is_made_beforehand (hint self.old) len)
+            (source self.old) (kinds result) (source self.new) }
+        ensures ok { KeepsNext prelude.cursor_left (source self.old) len (kinds result) (source self.new) }
         ensures start { IfOk result (λ c. prelude.IsAtStart c) }
         ensures count { IfOk result (λ c. length (prelude.cursor_left c) ≡ len) }
-        ensures err { IsTrue (source self.old).told → IfErr result (λ e.
-            FailsToKeep (source self.old) len (refusal_kind e) (source self.new)) };
+        ensures err { RefusesNext (source self.old) len (kinds result) (source self.new) };
 
     /// Bytes at hand, none of which is taken: the first of those that are left. There may be none.
     fn shown_bytes(&self) -> &[u8]

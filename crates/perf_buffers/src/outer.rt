@@ -3,8 +3,8 @@
 ghost use Rattle.std.specs.Prelude.{◌≡◌, ◌≤◌, ◌*◌, [], length, true, IsTrue, IsOk, IfOk, IfErr, OnErr};
 ghost use Rattle.perf_base.specs.Refusals.{IsErrorOf, refusal_kind};
 ghost use Rattle.perf_buffers.specs.FrameBytes.{GivesNextBytes, TakesOrLeaves};
-ghost use Rattle.perf_buffers.specs.Prelude.{kinds, kind_if_refused, BufferInvariant, Refuses, CanFail, NeedsNoMemory};
-ghost use Rattle.perf_buffers.specs.Prelude.{FailsToKeep, falls_short, is_made_beforehand};
+ghost use Rattle.perf_buffers.specs.Prelude.{kinds, kind_if_refused, BufferInvariant, Refuses, CanFail, is_made_beforehand};
+ghost use Rattle.perf_buffers.specs.Cutting.{WholeNeedsNoMemory, RefusesShort, AllocatesFirst, RefusesNext};
 
 use crate::cursor::ParseBufCursor;
 use crate::cut::{cut, says_too_few, shortage, skip};
@@ -135,22 +135,17 @@ impl<'p, B: ParseBuf<'p>> Outer<B> {
         ensures stays { BufferInvariant (B.source self.old.buf) (kind_if_refused (kinds result))
             (B.source self.new.buf) }
         ensures can_fail { CanFail (B.source self.old.buf) (kind_if_refused (kinds result)) }
-        ensures whole_memory { IsTrue (B.source self.old.buf).whole →
-            NeedsNoMemory (kinds result) }
+        ensures whole_memory { WholeNeedsNoMemory (B.source self.old.buf) (kinds result) }
         ensures nothing { len ≡ 0 → IsOk result
             × (B.source self.new.buf ≡ B.source self.old.buf)
             × IfOk result (λ output. F.gives reader [] true state.old output state.new) }
-        ensures short { falls_short (B.hint self.old.buf) len ≡ true →
-            NeedsNoMemory (kinds result) × IfOk result (λ output. ⊥) }
-        ensures beforehand { IsTrue (B.source self.old.buf).told →
-            is_made_beforehand (B.hint self.old.buf) len ≡ true → IfErr result (λ e.
-            refusal_kind e ≡ ErrorKind.OutOfMemory →
-            (B.source self.new.buf).left ≡ (B.source self.old.buf).left) }
+        ensures short { RefusesShort (B.hint self.old.buf) len (kinds result) }
+        ensures beforehand { AllocatesFirst (is_made_beforehand (B.hint self.old.buf) len)
+            (B.source self.old.buf) (kinds result) (B.source self.new.buf) }
         ensures ok { IfOk result (λ output. GivesNextBytes (F.gives reader)
             (B.source self.old.buf) len state.old output (B.source self.new.buf) state.new) }
         ensures same { OnErr result (state.new ≡ state.old) }
-        ensures err { IsTrue (B.source self.old.buf).told → IfErr result (λ e.
-            FailsToKeep (B.source self.old.buf) len (refusal_kind e) (B.source self.new.buf)) }
+        ensures err { RefusesNext (B.source self.old.buf) len (kinds result) (B.source self.new.buf) }
     {
         if len == 0 {
             return Ok(reader.read(state, ParseBufChunk::External(&[])));
