@@ -6,7 +6,7 @@ ghost use Rattle.perf_base.specs.Layout.{words_of};
 use perf_base::Endian;
 
 /// The most numbers in a block that is read when the input does not show them.
-pub const BLOCK_LEN: usize = 48;
+pub(crate) const BLOCK_LEN: usize = 48;
 
 // The size of a number in bytes.
 pub(crate) const NUMBER_SIZE: usize = 8;

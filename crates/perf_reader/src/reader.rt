@@ -1,13 +1,15 @@
 //! An input and how to read it.
 
 ghost use Rattle.std.specs.Prelude.{◌≡◌, ◌≤◌, ◌<◌, length, Ok, Err, None, IsTrue, IfOk, IfErr};
-ghost use Rattle.std.specs.Prelude.{IfSome, ◌*◌, Bool, true, false, ◌+◌, IsOk, take, ℕ, []};
+ghost use Rattle.std.specs.Prelude.{IfSome, ◌*◌, Bool, true, false, ◌+◌, IsOk, ℕ, []};
 ghost use Rattle.std.specs.Prelude.{OnErr, nat_le, option_map, vec_capacity, ◌≢◌};
 ghost use Rattle.perf_base.specs.Attribute.{zero_tail};
 ghost use Rattle.perf_base.specs.Configured.{configuration_of, endian_of};
 ghost use Rattle.perf_base.specs.FieldWords.{name};
 ghost use Rattle.perf_base.specs.Header.{header};
 ghost use Rattle.perf_base.specs.Refusals.{IsErrorOf};
+ghost use Rattle.perf_buffers.specs.Cutting.{BorrowsWhole, WholeNeedsNoMemory, RefusesShort};
+ghost use Rattle.perf_buffers.specs.Cutting.{AllocatesFirst, KeepsNext, RefusesNext};
 ghost use Rattle.perf_buffers.specs.Taking.{MovesWithin};
 ghost use Rattle.perf_buffers.specs.declared.outer.Outer.{Outer};
 ghost use Rattle.perf_reader.specs.NextFrame.{GivesNextFrame, FailsToReadFrame};
@@ -17,7 +19,7 @@ ghost use Rattle.perf_reader.specs.Prelude.{Call, ReadsAtOnce, NeedsNoMemory, ki
 ghost use Rattle.perf_reader.specs.Prelude.{refusal_kind, ReadsOne, words, one_if_any, OutOfMemory};
 ghost use Rattle.perf_reader.specs.Prelude.{falls_short, is_made_beforehand, reads_of, cow_items};
 ghost use Rattle.perf_reader.specs.Prelude.{is_borrowed, byte_string, BufferInvariant, cursor_left};
-ghost use Rattle.perf_reader.specs.Prelude.{cursor_is_borrowed, IsAtStart, Takes, FailsToKeep, CanFail};
+ghost use Rattle.perf_reader.specs.Prelude.{cursor_is_borrowed, IsAtStart, CanFail};
 ghost use Rattle.perf_reader.specs.Prelude.{config_of, kind_if_refused, Refuses, buffer_of, ReadsPlain};
 ghost use Rattle.perf_reader.specs.Prelude.{state_of, Reads, number, w1, w2, w4, w8, optional};
 ghost use Rattle.perf_reader.specs.Prelude.{padding, rest, PassesOver};
@@ -148,26 +150,19 @@ impl<'p, I: Input<'p>, E: Endian> Reader<I, E> {
         ensures stays { BufferInvariant (I.source (input_of self.old)) (kind_if_refused (kinds result))
             (I.source (input_of self.new)) }
         ensures can_fail { CanFail (I.source (input_of self.old)) (kind_if_refused (kinds result)) }
-        ensures whole { IsTrue (I.source (input_of self.old)).whole →
-            IfOk result (λ c. IsTrue (cursor_is_borrowed c)) }
-        ensures whole_memory { IsTrue (I.source (input_of self.old)).whole →
-            NeedsNoMemory (kinds result) }
+        ensures whole { BorrowsWhole cursor_is_borrowed (I.source (input_of self.old)) (kinds result) }
+        ensures whole_memory { WholeNeedsNoMemory (I.source (input_of self.old)) (kinds result) }
         ensures nothing { len ≡ 0 → IfOk result (λ c. IsTrue (cursor_is_borrowed c)) × IsOk result
             × (I.source (input_of self.new) ≡ I.source (input_of self.old)) }
-        ensures short { falls_short (I.hint (input_of self.old)) len ≡ true →
-            NeedsNoMemory (kinds result) × IfOk result (λ c. ⊥) }
-        ensures beforehand { IsTrue (I.source (input_of self.old)).told →
-            is_made_beforehand (I.hint (input_of self.old)) len ≡ true → IfErr result (λ e.
-            refusal_kind e ≡ OutOfMemory →
-            (I.source (input_of self.new)).left ≡ (I.source (input_of self.old)).left) }
-        ensures ok { IsTrue (I.source (input_of self.old)).told → IfOk result (λ c.
-            Takes (I.source (input_of self.old)) len (I.source (input_of self.new))
-            × (cursor_left c ≡ take len (I.source (input_of self.old)).left)) }
+        ensures short { RefusesShort (I.hint (input_of self.old)) len (kinds result) }
+        ensures beforehand { AllocatesFirst (is_made_beforehand (I.hint (input_of self.old)) len)
+            (I.source (input_of self.old)) (kinds result) (I.source (input_of self.new)) }
+        ensures ok { KeepsNext cursor_left (I.source (input_of self.old)) len (kinds result)
+            (I.source (input_of self.new)) }
         ensures start { IfOk result (λ c. IsAtStart c) }
         ensures count { IfOk result (λ c. length (cursor_left c) ≡ len) }
-        ensures err { IsTrue (I.source (input_of self.old)).told → IfErr result (λ e.
-            FailsToKeep (I.source (input_of self.old)) len (refusal_kind e)
-            (I.source (input_of self.new))) }
+        ensures err { RefusesNext (I.source (input_of self.old)) len (kinds result)
+            (I.source (input_of self.new)) }
     {
         self.input.cut(self.alloc, len)
     }
@@ -219,7 +214,7 @@ impl<'p, I: Input<'p>, E> Reader<I, E> {
 
     /// The capacity, in items, that a list of `claimed` items gets before the first of them is
     /// read. An item has eight bytes or more.
-    pub fn room_for(&self, claimed: usize) -> usize
+    pub(crate) fn room_for(&self, claimed: usize) -> usize
         ensures { IsRoom (I.hint (input_of self.now)) claimed result }
     {
         let most = match self.input.remaining_hint() {
@@ -357,7 +352,7 @@ impl<'p, I: Input<'p>, E: Endian> Reader<I, E> {
     /// A number of two bytes, if it is present.
     #[inline]
     #[tactic(auto, using(crate::proofs::Steps::optionals))]
-    pub fn read_u16_if(&mut self, present: bool) -> ReadResult<Option<u16>>
+    pub(crate) fn read_u16_if(&mut self, present: bool) -> ReadResult<Option<u16>>
         ensures memory { NeedsNoMemory (kinds result) }
         ensures call { Call I.source E.order (ReadsOne (optional present w2) (λ n. n))
             self.old (kinds result) self.new }
@@ -476,7 +471,7 @@ impl<'p, I: Input<'p>, E: Endian> Reader<I, E> {
 impl<'p, I: Input<'p>, E: Endian> Reader<I, E> {
     /// Whether the input shows `count` more numbers of eight bytes.
     #[inline]
-    pub fn shows_numbers(&self, count: usize) -> bool {
+    pub(crate) fn shows_numbers(&self, count: usize) -> bool {
         count <= self.input.shown_bytes().len() / NUMBER_SIZE
     }
 
@@ -630,8 +625,7 @@ impl<'p, I: Input<'p>, E: Endian> Reader<I, E> {
     /// memory if the input reports how much it has.
     pub fn read_numbers(&mut self, count: usize) -> ReadResult<Vec<u64>>
         ensures length { IfOk result (λ v. length v.items ≡ count) }
-        ensures short { falls_short (I.hint (input_of self.old)) (8 * count) ≡ true →
-            NeedsNoMemory (kinds result) × IfOk result (λ v. ⊥) }
+        ensures short { RefusesShort (I.hint (input_of self.old)) (8 * count) (kinds result) }
         ensures call { Call I.source E.order (ReadsOne (words count) (λ v. v.items))
             self.old (kinds result) self.new }
     {
@@ -642,8 +636,7 @@ impl<'p, I: Input<'p>, E: Endian> Reader<I, E> {
     /// of [`Reader::list_over`]. No memory is needed if that has the capacity.
     pub fn read_numbers_over(&mut self, spare: Vec<u64>, count: usize) -> ReadResult<Vec<u64>>
         ensures length { IfOk result (λ v. length v.items ≡ count) }
-        ensures short { falls_short (I.hint (input_of self.old)) (8 * count) ≡ true →
-            NeedsNoMemory (kinds result) × IfOk result (λ v. ⊥) }
+        ensures short { RefusesShort (I.hint (input_of self.old)) (8 * count) (kinds result) }
         ensures enough { count ≤ vec_capacity spare → NeedsNoMemory (kinds result) }
         ensures call { Call I.source E.order (ReadsOne (words count) (λ v. v.items))
             self.old (kinds result) self.new }
@@ -701,18 +694,14 @@ impl<'p, I: Input<'p>, E: Endian> Reader<I, E> {
     #[inline]
     #[tactic(auto, using(crate::proofs::Steps::run_none))]
     pub fn read_bytes(&mut self, len: usize) -> ReadResult<CowSlice<'p, u8>>
-        ensures whole { IsTrue (I.source (input_of self.old)).whole →
-            IfOk result (λ c. IsTrue (is_borrowed c)) }
-        ensures whole_memory { IsTrue (I.source (input_of self.old)).whole →
-            NeedsNoMemory (kinds result) }
+        ensures whole { BorrowsWhole is_borrowed (I.source (input_of self.old)) (kinds result) }
+        ensures whole_memory { WholeNeedsNoMemory (I.source (input_of self.old)) (kinds result) }
         ensures nothing { len ≡ 0 → IsOk result × (input_of self.new ≡ input_of self.old)
             × IfOk result (λ c. IsTrue (is_borrowed c)) }
         ensures short { falls_short (I.hint (input_of self.old)) len ≡ true →
             NeedsNoMemory (kinds result) }
-        ensures beforehand { IsTrue (I.source (input_of self.old)).told →
-            is_made_beforehand (I.hint (input_of self.old)) len ≡ true → IfErr result (λ e.
-            refusal_kind e ≡ OutOfMemory →
-            (I.source (input_of self.new)).left ≡ (I.source (input_of self.old)).left) }
+        ensures beforehand { AllocatesFirst (is_made_beforehand (I.hint (input_of self.old)) len)
+            (I.source (input_of self.old)) (kinds result) (I.source (input_of self.new)) }
         ensures counted { reads_of self.new ≡ reads_of self.old + one_if_any len }
         ensures length { IfOk result (λ c. length (cow_items c) ≡ len) }
         ensures call { Call I.source E.order (ReadsOne (byte_string len) cow_items)
@@ -733,10 +722,8 @@ impl<'p, I: Input<'p>, E: Endian> Reader<I, E> {
     /// All bytes that are left: borrowed if the input is whole, or if there are none.
     #[inline]
     pub fn read_rest(&mut self) -> ReadResult<CowSlice<'p, u8>>
-        ensures whole { IsTrue (I.source (input_of self.old)).whole →
-            IfOk result (λ c. IsTrue (is_borrowed c)) }
-        ensures whole_memory { IsTrue (I.source (input_of self.old)).whole →
-            NeedsNoMemory (kinds result) }
+        ensures whole { BorrowsWhole is_borrowed (I.source (input_of self.old)) (kinds result) }
+        ensures whole_memory { WholeNeedsNoMemory (I.source (input_of self.old)) (kinds result) }
         ensures nothing { IsTrue (I.source (input_of self.old)).told →
             (I.source (input_of self.old)).left ≡ [] →
             NeedsNoMemory (kinds result) × IfOk result (λ c. IsTrue (is_borrowed c)) }
@@ -764,10 +751,8 @@ impl<'p, I: Input<'p>, E: Endian> Reader<I, E> {
     #[inline]
     #[tactic(auto, using(crate::proofs::Calls::chain))]
     pub fn read_rest_trim_nul(&mut self) -> ReadResult<CowSlice<'p, u8>>
-        ensures whole { IsTrue (I.source (input_of self.old)).whole →
-            IfOk result (λ c. IsTrue (is_borrowed c)) }
-        ensures whole_memory { IsTrue (I.source (input_of self.old)).whole →
-            NeedsNoMemory (kinds result) }
+        ensures whole { BorrowsWhole is_borrowed (I.source (input_of self.old)) (kinds result) }
+        ensures whole_memory { WholeNeedsNoMemory (I.source (input_of self.old)) (kinds result) }
         ensures nothing { IsTrue (I.source (input_of self.old)).told →
             (I.source (input_of self.old)).left ≡ [] →
             NeedsNoMemory (kinds result) × IfOk result (λ c. IsTrue (is_borrowed c)) }
@@ -927,19 +912,15 @@ impl<'p, B: ParseBuf<'p>, E: Endian> Reader<Outer<B>, E> {
         ensures stays { BufferInvariant (B.source (buffer_of self.old)) (kind_if_refused (kinds result))
             (B.source (buffer_of self.new)) }
         ensures can_fail { CanFail (B.source (buffer_of self.old)) (kind_if_refused (kinds result)) }
-        ensures whole_memory { IsTrue (B.source (buffer_of self.old)).whole →
-            NeedsNoMemory (kinds result) }
+        ensures whole_memory { WholeNeedsNoMemory (B.source (buffer_of self.old)) (kinds result) }
         ensures nothing { len ≡ 0 → IsOk result
             × (B.source (buffer_of self.new) ≡ B.source (buffer_of self.old))
             × IfOk result (λ output. (more : ℕ) × F.gives reader
             (configuration_of (config_of self.old)) (E.order (endian_of (config_of self.old)))
             [] true more state.old output state.new) }
-        ensures short { falls_short (B.hint (buffer_of self.old)) len ≡ true →
-            NeedsNoMemory (kinds result) × IfOk result (λ output. ⊥) }
-        ensures beforehand { IsTrue (B.source (buffer_of self.old)).told →
-            is_made_beforehand (B.hint (buffer_of self.old)) len ≡ true → IfErr result (λ e.
-            refusal_kind e ≡ OutOfMemory →
-            (B.source (buffer_of self.new)).left ≡ (B.source (buffer_of self.old)).left) }
+        ensures short { RefusesShort (B.hint (buffer_of self.old)) len (kinds result) }
+        ensures beforehand { AllocatesFirst (is_made_beforehand (B.hint (buffer_of self.old)) len)
+            (B.source (buffer_of self.old)) (kinds result) (B.source (buffer_of self.new)) }
         ensures ok { IfOk result (λ output. GivesNextFrame
             (F.gives reader (configuration_of (config_of self.old))
             (E.order (endian_of (config_of self.old))))
