@@ -77,19 +77,22 @@ fn skip_some<'p, B: ParseBuf<'p>>(buf: &mut B, len: usize) -> ParseResult<usize>
     Ok(count)
 }
 
-/// Takes `len` bytes and keeps none of them.
-pub fn skip<'p, B: ParseBuf<'p>>(buf: &mut B, len: usize) -> ParseResult<()>
-    ensures stays { BufferInvariant (B.source buf.old) (kind_if_failed result) (B.source buf.new) }
-    ensures can_fail { CanFail (B.source buf.old) (kind_if_failed result) }
-    ensures memory { prelude.CallNeedsNoMemory result }
+// Takes `len` bytes and keeps none of them.
+pub(crate) fn skip<'p, B: ParseBuf<'p>>(buf: &mut B, cause: &mut Kept, len: usize) -> ReadResult<()>
+    ensures stays { BufferInvariant (B.source buf.old) (kind_if_refused (kinds result)) (B.source buf.new) }
+    ensures can_fail { CanFail (B.source buf.old) (kind_if_refused (kinds result)) }
+    ensures memory { prelude.NeedsNoMemory (kinds result) }
     ensures ok { IsTrue (B.source buf.old).told →
         OnOk result (Takes (B.source buf.old) len (B.source buf.new)) }
-    ensures err { IsTrue (B.source buf.old).told →
-        IfErr result (λ e. FailsToTake (B.source buf.old) len (kind_of e) (B.source buf.new)) }
+    ensures err { IsTrue (B.source buf.old).told → IfErr result (λ e.
+        FailsToTake (B.source buf.old) len (refusal_kind e) (B.source buf.new)) }
 {
     let mut at = 0;
     while at < len {
-        at += skip_some(buf, len - at)?;
+        at += match skip_some(buf, len - at) {
+            Ok(count) => count,
+            Err(error) => return Err(cause.keep(error)),
+        };
     }
     Ok(())
 }
@@ -105,9 +108,9 @@ pub(crate) fn shortage<'p, B: ParseBuf<'p>>(buf: &mut B, cause: &mut Kept, len: 
     ensures err { IsTrue (B.source buf.old).told →
         FailsToKeep (B.source buf.old) len (refusal_kind result) (B.source buf.new) }
 {
-    match skip(buf, len) {
+    match skip(buf, cause, len) {
         Ok(()) => Refusal::Eof,
-        Err(error) => cause.keep(error),
+        Err(refusal) => refusal,
     }
 }
 

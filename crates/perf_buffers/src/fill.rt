@@ -62,21 +62,25 @@ fn take_some<'p, B: ParseBuf<'p>>(buf: &mut B, out: &mut [u8]) -> ParseResult<us
     Ok(count)
 }
 
-// Fills `out` from as many chunks as needed.
-fn fill_on<'p, B: ParseBuf<'p>>(buf: &mut B, out: &mut [u8]) -> ParseResult<()>
-    ensures stays { BufferInvariant (B.source buf.old) (kind_if_failed result) (B.source buf.new) }
-    ensures can_fail { CanFail (B.source buf.old) (kind_if_failed result) }
-    ensures memory { CallNeedsNoMemory result }
-    ensures ok { IsTrue (B.source buf.old).told →
-        OnOk result (Takes (B.source buf.old) (length out.old) (B.source buf.new)
+// Fills `out` from as many chunks as needed: off the path of numbers that lie within one chunk.
+#[cold]
+#[inline(never)]
+fn fill_slowly<'p, B: ParseBuf<'p>>(buf: &mut B, cause: &mut Kept, out: &mut [u8]) -> ReadResult<()>
+    ensures stays { BufferInvariant (B.source buf.old) (kind_if_refused (kinds result)) (B.source buf.new) }
+    ensures can_fail { CanFail (B.source buf.old) (kind_if_refused (kinds result)) }
+    ensures memory { NeedsNoMemory (kinds result) }
+    ensures ok { IsTrue (B.source buf.old).told → OnOk result (
+        Takes (B.source buf.old) (length out.old) (B.source buf.new)
         × (out.new ≡ take (length out.old) (B.source buf.old).left)) }
-    ensures err { IsTrue (B.source buf.old).told →
-        IfErr result (λ e.
-        FailsToTake (B.source buf.old) (length out.old) (kind_of e) (B.source buf.new)) }
+    ensures err { IsTrue (B.source buf.old).told → IfErr result (λ e.
+        FailsToTake (B.source buf.old) (length out.old) (refusal_kind e) (B.source buf.new)) }
 {
     let mut at = 0;
     while at < out.len() {
-        at += take_some(buf, &mut out[at..])?;
+        at += match take_some(buf, &mut out[at..]) {
+            Ok(count) => count,
+            Err(error) => return Err(cause.keep(error)),
+        };
     }
     Ok(())
 }
@@ -140,26 +144,6 @@ pub(crate) fn append<'p, B: ParseBuf<'p>>(
         };
     }
     Ok(())
-}
-
-// The same, with the error of a fault kept separately: off the path of numbers that lie within one
-// chunk.
-#[cold]
-#[inline(never)]
-fn fill_slowly<'p, B: ParseBuf<'p>>(buf: &mut B, cause: &mut Kept, out: &mut [u8]) -> ReadResult<()>
-    ensures stays { BufferInvariant (B.source buf.old) (kind_if_refused (kinds result)) (B.source buf.new) }
-    ensures can_fail { CanFail (B.source buf.old) (kind_if_refused (kinds result)) }
-    ensures memory { NeedsNoMemory (kinds result) }
-    ensures ok { IsTrue (B.source buf.old).told → OnOk result (
-        Takes (B.source buf.old) (length out.old) (B.source buf.new)
-        × (out.new ≡ take (length out.old) (B.source buf.old).left)) }
-    ensures err { IsTrue (B.source buf.old).told → IfErr result (λ e.
-        FailsToTake (B.source buf.old) (length out.old) (refusal_kind e) (B.source buf.new)) }
-{
-    match fill_on(buf, out) {
-        Ok(()) => Ok(()),
-        Err(error) => Err(cause.keep(error)),
-    }
 }
 
 // Fills `out`, which has space for at least one byte.

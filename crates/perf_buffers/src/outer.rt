@@ -183,18 +183,12 @@ impl<'p, B: ParseBuf<'p>> Input<'p> for Outer<B> {
 
     #[inline]
     fn skip(&mut self, len: usize) -> ReadResult<()> {
-        match skip(&mut self.buf, len) {
-            Ok(()) => Ok(()),
-            Err(error) => Err(self.cause.keep(error)),
-        }
+        skip(&mut self.buf, &mut self.cause, len)
     }
 
     #[inline]
     fn take_zeros(&mut self, len: usize) -> ReadResult<bool> {
-        match take_zeros(&mut self.buf, len) {
-            Ok(zero) => Ok(zero),
-            Err(error) => Err(self.cause.keep(error)),
-        }
+        take_zeros(&mut self.buf, &mut self.cause, len)
     }
 
     #[inline]

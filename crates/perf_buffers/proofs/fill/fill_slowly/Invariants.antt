@@ -2,7 +2,7 @@ use Rattle.std.proofs.Common.{◌≡◌, ◌-◌, ◌≤◌, length, take, None}
 use Rattle.std.specs.Prelude.{IsTrue}
 use Rattle.perf_buffers.specs.Buffer.{BufferInvariant}
 use Rattle.perf_buffers.specs.Taking.{Takes}
-use Rattle.perf_buffers.proofs.fill.fill_on.Given as goal
+use Rattle.perf_buffers.proofs.fill.fill_slowly.Given as goal
 
 abbrev pub invariant-loop-at : goal.invariant-loop-at
 invariant-loop-at g l =

@@ -1,10 +1,10 @@
 use Rattle.std.proofs.Common.{rules, ◌≤◌, take, ap, ◌≡◌, ◌-◌, length, ◌∙◌}
 use Rattle.perf_buffers.proofs.Takes.{takes_more, take_on, length_on}
-use Rattle.perf_buffers.proofs.fill.fill_on.Goals as goal
+use Rattle.perf_buffers.proofs.fill.fill_slowly.Goals as goal
 
 pub loop-at-preserved : goal.loop-at-preserved
 loop-at-preserved g c =
-    let i = c.loop-at.invariant in let e = c.in_ok-at.ensures in let n = c.in_ok-at.field-0 in
+    let i = c.loop-at.invariant in let e = c.in-Ok.ensures in let n = c.in-Ok.count in
     let same : length c.take_some.new.out ≡ length c.loop-at.out - c.loop-at.at = search rules in
     let within : n ≤ length c.take_some.new.out = search rules in (
       length_on c.loop-at.at n c.loop-at.out c.take_some.new.out i.0 same within,
