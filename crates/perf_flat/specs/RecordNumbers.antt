@@ -1,17 +1,16 @@
 -- The numbers of a record, in the order in which a flat frame has them.
 use Rattle.std.specs.Prelude.{ℕ, List, [], ◌∷◌, length}
 use Rattle.perf_base.specs.Attribute.{or_zero}
-use Rattle.perf_types.specs.Aux.{AuxValue}
-use Rattle.perf_types.specs.BpfEvent.{BpfEventValue}
+use Rattle.perf_types.specs.Numbers.{AuxValue, BpfEventValue}
 use Rattle.perf_types.specs.KSymbol.{KSymbolValue}
 use Rattle.perf_types.specs.Mmap.{MmapValue}
 use Rattle.perf_types.specs.Mmap2.{Mmap2Value}
 use Rattle.perf_types.specs.MmapDetail.{maj_of, min_of, ino_of, ino_generation_of}
 use Rattle.perf_types.specs.Read.{TaskRead}
-use Rattle.perf_types.specs.declared.exit.Exit.{Exit}
+use Rattle.perf_types.specs.declared.numbers.Exit.{Exit}
 use Rattle.perf_types.specs.declared.switch_cpu_wide.SwitchCpuWide.{SwitchCpuWide}
 use Rattle.perf_types.specs.declared.switch_cpu_wide.SwitchCpuWide.TheVariants as switch
-use Rattle.perf_types.specs.declared.throttle.Throttle.{Throttle}
+use Rattle.perf_types.specs.declared.numbers.Throttle.{Throttle}
 use Rattle.perf_records.specs.Records.{RecordValue, mmap_is, lost_is, comm_is, exit_is, throttle_is}
 use Rattle.perf_records.specs.Records.{unthrottle_is, fork_is, read_is, sample_is, mmap2_is, aux_is}
 use Rattle.perf_records.specs.Records.{itrace_start_is, lost_samples_is, switch_is}

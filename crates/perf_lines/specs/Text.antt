@@ -12,25 +12,24 @@ use Rattle.perf_base.specs.declared.error.ErrorKind.{ErrorKind}
 use Rattle.perf_base.specs.declared.error.ErrorKind.TheVariants.{Eof, InvalidRecord}
 use Rattle.perf_base.specs.declared.error.ErrorKind.TheVariants.{UnsupportedConfig, UnsupportedData}
 use Rattle.perf_base.specs.declared.error.ErrorKind.TheVariants.{External, OutOfMemory}
-use Rattle.perf_types.specs.declared.exit.Exit.{Exit}
-use Rattle.perf_types.specs.declared.lost.Lost.{Lost}
-use Rattle.perf_types.specs.declared.lost_samples.LostSamples.{LostSamples}
-use Rattle.perf_types.specs.declared.throttle.Throttle.{Throttle}
-use Rattle.perf_types.specs.declared.itrace_start.ITraceStart.{ITraceStart}
+use Rattle.perf_types.specs.declared.numbers.Exit.{Exit}
+use Rattle.perf_types.specs.declared.numbers.Lost.{Lost}
+use Rattle.perf_types.specs.declared.numbers.LostSamples.{LostSamples}
+use Rattle.perf_types.specs.declared.numbers.Throttle.{Throttle}
+use Rattle.perf_types.specs.declared.numbers.ITraceStart.{ITraceStart}
 use Rattle.perf_types.specs.declared.switch_cpu_wide.SwitchCpuWide.{SwitchCpuWide}
 use Rattle.perf_types.specs.declared.switch_cpu_wide.SwitchCpuWide.TheVariants as switch
 use Rattle.perf_types.specs.declared.namespaces.NamespaceEntry.{NamespaceEntry}
-use Rattle.perf_types.specs.declared.aux_output_hw_id.AuxOutputHwId.{AuxOutputHwId}
+use Rattle.perf_types.specs.declared.numbers.AuxOutputHwId.{AuxOutputHwId}
 use Rattle.perf_types.specs.Mmap.{MmapValue}
 use Rattle.perf_types.specs.Comm.{CommValue}
 use Rattle.perf_types.specs.MmapDetail.{DetailValue, inode_is, build_id_is}
 use Rattle.perf_types.specs.Read.{TaskRead}
 use Rattle.perf_types.specs.Mmap2.{Mmap2Value}
-use Rattle.perf_types.specs.Aux.{AuxValue}
+use Rattle.perf_types.specs.Numbers.{AuxValue, BpfEventValue}
 use Rattle.perf_types.specs.SwitchCpuWide.{other_pid, other_tid}
 use Rattle.perf_types.specs.Namespaces.{NamespacesValue}
 use Rattle.perf_types.specs.KSymbol.{KSymbolValue}
-use Rattle.perf_types.specs.BpfEvent.{BpfEventValue}
 use Rattle.perf_types.specs.CGroup.{CGroupValue}
 use Rattle.perf_types.specs.TextPoke.{TextPokeValue}
 use Rattle.perf_sample_types.specs.SampleGetters.{getters_of}

@@ -13,23 +13,17 @@ use Rattle.perf_records.specs.Records.{text_poke_is, aux_output_hw_id_is, unknow
 use Rattle.perf_records.specs.declared.record_type.RecordType.{RecordType}
 use Rattle.perf_records.specs.declared.record_type.RecordType.TheVariants as type
 use Rattle.perf_types.specs.Mmap.{mmap}
-use Rattle.perf_types.specs.Lost.{lost}
+use Rattle.perf_types.specs.Numbers.{lost, exit, throttle, aux, itrace_start, lost_samples}
+use Rattle.perf_types.specs.Numbers.{bpf_event, aux_output_hw_id}
 use Rattle.perf_types.specs.Comm.{comm}
-use Rattle.perf_types.specs.Exit.{exit}
-use Rattle.perf_types.specs.Throttle.{throttle}
 use Rattle.perf_types.specs.Read.{read}
 use Rattle.perf_sample_types.specs.Sample.{sample}
 use Rattle.perf_types.specs.Mmap2.{mmap2}
-use Rattle.perf_types.specs.Aux.{aux}
-use Rattle.perf_types.specs.ITraceStart.{itrace_start}
-use Rattle.perf_types.specs.LostSamples.{lost_samples}
 use Rattle.perf_types.specs.SwitchCpuWide.{switch_cpu_wide}
 use Rattle.perf_types.specs.Namespaces.{namespaces}
 use Rattle.perf_types.specs.KSymbol.{ksymbol}
-use Rattle.perf_types.specs.BpfEvent.{bpf_event}
 use Rattle.perf_types.specs.CGroup.{cgroup}
 use Rattle.perf_types.specs.TextPoke.{text_poke}
-use Rattle.perf_types.specs.AuxOutputHwId.{aux_output_hw_id}
 
 -- the body of a type that has no table: all of its bytes
 abbrev pub unread : ℕ → Parts RecordValue

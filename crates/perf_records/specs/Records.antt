@@ -1,13 +1,13 @@
 -- The contents of a record in plain numbers and lists.
 use Rattle.std.specs.Prelude.{ℕ, List, IsTrue, ◌≡◌}
 use Rattle.perf_base.specs.Cow.{cow_items, is_borrowed}
-use Rattle.perf_types.specs.declared.lost.Lost.{Lost}
-use Rattle.perf_types.specs.declared.exit.Exit.{Exit}
-use Rattle.perf_types.specs.declared.throttle.Throttle.{Throttle}
-use Rattle.perf_types.specs.declared.itrace_start.ITraceStart.{ITraceStart}
-use Rattle.perf_types.specs.declared.lost_samples.LostSamples.{LostSamples}
+use Rattle.perf_types.specs.declared.numbers.Lost.{Lost}
+use Rattle.perf_types.specs.declared.numbers.Exit.{Exit}
+use Rattle.perf_types.specs.declared.numbers.Throttle.{Throttle}
+use Rattle.perf_types.specs.declared.numbers.ITraceStart.{ITraceStart}
+use Rattle.perf_types.specs.declared.numbers.LostSamples.{LostSamples}
 use Rattle.perf_types.specs.declared.switch_cpu_wide.SwitchCpuWide.{SwitchCpuWide}
-use Rattle.perf_types.specs.declared.aux_output_hw_id.AuxOutputHwId.{AuxOutputHwId}
+use Rattle.perf_types.specs.declared.numbers.AuxOutputHwId.{AuxOutputHwId}
 pub use Rattle.perf_types.specs.Mmap.{mmap_value}
 use Rattle.perf_types.specs.Mmap.{MmapValue, IsBorrowedMmap}
 pub use Rattle.perf_types.specs.Comm.{comm_value}
@@ -20,14 +20,13 @@ use Rattle.perf_sample_types.specs.SampleGroups.{IsBorrowedSample}
 use Rattle.perf_sample_types.specs.declared.sample.Sample.{Sample}
 pub use Rattle.perf_types.specs.Mmap2.{mmap2_value}
 use Rattle.perf_types.specs.Mmap2.{Mmap2Value, IsBorrowedMmap2}
-pub use Rattle.perf_types.specs.Aux.{aux_value}
-use Rattle.perf_types.specs.Aux.{AuxValue}
+pub use Rattle.perf_types.specs.Numbers.{aux_value}
+use Rattle.perf_types.specs.Numbers.{AuxValue, BpfEventValue}
 pub use Rattle.perf_types.specs.Namespaces.{namespaces_value}
 use Rattle.perf_types.specs.Namespaces.{NamespacesValue}
 pub use Rattle.perf_types.specs.KSymbol.{ksymbol_value}
 use Rattle.perf_types.specs.KSymbol.{KSymbolValue, IsBorrowedKSymbol}
-pub use Rattle.perf_types.specs.BpfEvent.{bpf_event_value}
-use Rattle.perf_types.specs.BpfEvent.{BpfEventValue}
+pub use Rattle.perf_types.specs.Numbers.{bpf_event_value}
 pub use Rattle.perf_types.specs.CGroup.{cgroup_value}
 use Rattle.perf_types.specs.CGroup.{CGroupValue, IsBorrowedCGroup}
 pub use Rattle.perf_types.specs.TextPoke.{text_poke_value}

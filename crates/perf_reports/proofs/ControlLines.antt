@@ -2,7 +2,7 @@
 use Rattle.std.proofs.Common.{ℕ, false, List, [], ◌∷◌, ◌++◌, ◌==◌, refl, codes, decimal, unwrap_or, bit_and}
 use Rattle.std.specs.Fmt.{digits}
 use Rattle.std.specs.List.{flat_map, join_by}
-use Rattle.perf_types.specs.declared.exit.Exit.{Exit}
+use Rattle.perf_types.specs.declared.numbers.Exit.{Exit}
 use Rattle.perf_types.specs.declared.namespaces.NamespaceEntry.{NamespaceEntry}
 use Rattle.perf_types.specs.Mmap2.{Mmap2Value}
 use Rattle.perf_types.specs.MmapDetail.{DetailValue, inode_is, build_id_is}

@@ -13,8 +13,8 @@ use Rattle.perf_base.specs.declared.sys.perf_event_attr.{perf_event_attr}
 use Rattle.perf_base.specs.declared.sys.perf_event_header.{perf_event_header}
 use Rattle.perf_base.specs.declared.error.ErrorKind.{ErrorKind}
 use Rattle.perf_base.specs.declared.error.ErrorKind.TheVariants.{External, OutOfMemory}
-use Rattle.perf_types.specs.declared.exit.Exit.{Exit}
-use Rattle.perf_types.specs.declared.lost.Lost.{Lost}
+use Rattle.perf_types.specs.declared.numbers.Exit.{Exit}
+use Rattle.perf_types.specs.declared.numbers.Lost.{Lost}
 use Rattle.perf_types.specs.Mmap.{MmapValue}
 use Rattle.perf_types.specs.Mmap2.{Mmap2Value}
 use Rattle.perf_types.specs.Comm.{CommValue}

@@ -7,7 +7,7 @@ use Rattle.std.specs.Int.{is_in_range}
 use Rattle.std.specs.List.{All, flat_map, join_by, join_with_byte}
 use Rattle.std.specs.Str.{chars}
 use Rattle.std.specs.Str.Lossy.{utf8_valid_len, utf8_invalid_len, after_first_chunk}
-use Rattle.perf_types.specs.declared.exit.Exit.{Exit}
+use Rattle.perf_types.specs.declared.numbers.Exit.{Exit}
 use Rattle.perf_types.specs.declared.namespaces.NamespaceEntry.{NamespaceEntry}
 use Rattle.perf_types.specs.Comm.{CommValue}
 use Rattle.perf_types.specs.Mmap.{MmapValue}

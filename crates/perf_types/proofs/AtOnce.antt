@@ -6,7 +6,7 @@ use Rattle.perf_base.specs.Order.{Order}
 use Rattle.perf_base.specs.Took.{took, took_by_places}
 use Rattle.perf_base.proofs.Took.{places_took}
 use Rattle.perf_reader.proofs.AtOnce.{four_at, eight_at, in_front}
-use Rattle.perf_types.specs.Exit.{exit}
+use Rattle.perf_types.specs.Numbers.{exit}
 use Rattle.perf_types.specs.Mmap2.{place}
 use Rattle.perf_types.specs.MmapDetail.{inode, inode_is}
 use Rattle.perf_types.specs.Pair.{pair}

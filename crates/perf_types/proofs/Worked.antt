@@ -5,16 +5,11 @@ use Rattle.perf_base.specs.Order.{little, big}
 use Rattle.perf_base.specs.Layout.{layout}
 use Rattle.perf_base.specs.LayoutReads.{layout_reads, layout_consumed}
 use Rattle.perf_base.specs.declared.error.ErrorKind.TheVariants.{Eof, InvalidRecord, UnsupportedConfig}
-use Rattle.perf_types.specs.Aux.{aux}
-use Rattle.perf_types.specs.AuxOutputHwId.{aux_output_hw_id}
-use Rattle.perf_types.specs.BpfEvent.{bpf_event}
+use Rattle.perf_types.specs.Numbers.{aux, aux_output_hw_id, bpf_event, exit, itrace_start, lost}
+use Rattle.perf_types.specs.Numbers.{lost_samples, throttle}
 use Rattle.perf_types.specs.CGroup.{cgroup}
 use Rattle.perf_types.specs.Comm.{comm}
-use Rattle.perf_types.specs.Exit.{exit}
-use Rattle.perf_types.specs.ITraceStart.{itrace_start}
 use Rattle.perf_types.specs.KSymbol.{ksymbol}
-use Rattle.perf_types.specs.Lost.{lost}
-use Rattle.perf_types.specs.LostSamples.{lost_samples}
 use Rattle.perf_types.specs.Mmap.{mmap}
 use Rattle.perf_types.specs.Mmap2.{mmap2}
 use Rattle.perf_types.specs.MmapDetail.{inode_is, build_id_is}
@@ -24,7 +19,6 @@ use Rattle.perf_types.specs.ReadGroup.{read_group}
 use Rattle.perf_types.specs.ReadValue.{read_value}
 use Rattle.perf_types.specs.SwitchCpuWide.{switch_cpu_wide}
 use Rattle.perf_types.specs.TextPoke.{text_poke}
-use Rattle.perf_types.specs.Throttle.{throttle}
 use Rattle.perf_types.specs.declared.switch_cpu_wide.SwitchCpuWide.TheVariants.{In, Out}
 
 abbrev lost_body : List ℕ

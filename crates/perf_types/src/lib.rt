@@ -1,25 +1,19 @@
 //! The kernel's records except samples, and the reads of counters, as plain values.
 #![tactic(auto)]
 
-pub mod aux_output_hw_id;
-pub mod aux_record;
-pub mod bpf_event;
 pub mod cgroup;
 pub mod comm;
-pub mod exit;
 pub mod group_entry;
 pub mod group_iter;
 pub mod group_laws;
 pub mod group_memory;
 mod hex;
-pub mod itrace_start;
 pub mod ksymbol;
 pub mod laws;
-pub mod lost;
-pub mod lost_samples;
 pub mod mmap;
 pub mod mmap2;
 pub mod namespaces;
+pub mod numbers;
 mod pair;
 pub mod read;
 mod read_format;
@@ -28,26 +22,20 @@ pub mod read_value;
 pub mod switch_cpu_wide;
 mod text;
 pub mod text_poke;
-pub mod throttle;
 
-pub use aux_output_hw_id::AuxOutputHwId;
-pub use aux_record::Aux;
-pub use bpf_event::BpfEvent;
 pub use cgroup::CGroup;
 pub use comm::Comm;
-pub use exit::{Exit, Fork};
 pub use group_entry::GroupEntry;
 pub use group_iter::GroupIter;
-pub use itrace_start::ITraceStart;
 pub use ksymbol::KSymbol;
-pub use lost::Lost;
-pub use lost_samples::LostSamples;
 pub use mmap::Mmap;
 pub use mmap2::{Mmap2, MmapDetail};
 pub use namespaces::{NamespaceEntry, Namespaces};
+pub use numbers::{
+    Aux, AuxOutputHwId, BpfEvent, Exit, Fork, ITraceStart, Lost, LostSamples, Throttle,
+};
 pub use read::Read;
 pub use read_group::ReadGroup;
 pub use read_value::{ReadValue, TryFromGroupError};
 pub use switch_cpu_wide::SwitchCpuWide;
 pub use text_poke::TextPoke;
-pub use throttle::Throttle;

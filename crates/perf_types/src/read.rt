@@ -4,6 +4,7 @@
 ghost use Rattle.perf_reader.specs.Prelude.{ReadsPlain};
 ghost use Rattle.perf_types.specs.Read.{read, task_read};
 
+use crate::pair::read_pair;
 use crate::read_value::ReadValue;
 use perf_base::{Endian, ReadResult};
 use perf_buffers::input::Input;
@@ -29,10 +30,8 @@ impl HasTransition for Read {
 impl<'p, I: Input<'p>> ReadFrom<'p, I> for Read {
     #[inline]
     fn read<E: Endian>(reader: &mut Reader<I, E>) -> ReadResult<Self> {
-        Ok(Read {
-            pid: reader.read_u32()?,
-            tid: reader.read_u32()?,
-            values: reader.read()?,
-        })
+        let (pid, tid) = read_pair(reader)?;
+        let values = reader.read()?;
+        Ok(Read { pid, tid, values })
     }
 }

@@ -7,6 +7,7 @@ ghost use Rattle.perf_types.specs.SwitchCpuWide.{other_pid, other_tid, switch_cp
 ghost use Rattle.perf_base.specs.Misc.{switch_out_bit};
 ghost use Rattle.perf_words.specs.Bits.{has_bit};
 
+use crate::pair::read_pair;
 use perf_base::sys::PERF_RECORD_MISC_SWITCH_OUT;
 use perf_base::{Endian, ReadResult};
 use perf_buffers::input::Input;
@@ -72,8 +73,7 @@ impl<'p, I: Input<'p>> ReadFrom<'p, I> for SwitchCpuWide {
     #[inline]
     fn read<E: Endian>(reader: &mut Reader<I, E>) -> ReadResult<Self> {
         let out = is_switch_out(reader.config().misc());
-        let pid = reader.read_u32()?;
-        let tid = reader.read_u32()?;
+        let (pid, tid) = read_pair(reader)?;
         if out {
             Ok(SwitchCpuWide::Out { pid, tid })
         } else {

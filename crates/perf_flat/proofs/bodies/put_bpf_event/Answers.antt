@@ -7,7 +7,7 @@ use Rattle.perf_flat.proofs.CursorRuns.{Passed, then_reads, all_read}
 use Rattle.perf_flat.proofs.Spans.{one_string}
 use Rattle.perf_flat.specs.CursorReads.{IsBodyOf}
 use Rattle.perf_records.specs.Records.{bpf_event_is}
-use Rattle.perf_types.specs.BpfEvent.{bpf_event}
+use Rattle.perf_types.specs.Numbers.{bpf_event}
 use Rattle.perf_flat.proofs.bodies.put_bpf_event.Goals as goal
 
 pub returns : goal.returns

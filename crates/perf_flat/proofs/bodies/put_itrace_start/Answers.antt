@@ -4,7 +4,7 @@ use Rattle.perf_flat.proofs.RecordWrites.{next_number}
 use Rattle.perf_flat.proofs.CursorRuns.{all_read}
 use Rattle.perf_flat.proofs.Spans.{no_strings}
 use Rattle.perf_records.specs.Records.{itrace_start_is}
-use Rattle.perf_types.specs.ITraceStart.{itrace_start}
+use Rattle.perf_types.specs.Numbers.{itrace_start}
 use Rattle.perf_flat.proofs.bodies.put_itrace_start.Goals as goal
 
 pub returns : goal.returns

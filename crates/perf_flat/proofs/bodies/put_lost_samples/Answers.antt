@@ -4,7 +4,7 @@ use Rattle.perf_flat.proofs.RecordWrites.{next_number}
 use Rattle.perf_flat.proofs.CursorRuns.{all_read}
 use Rattle.perf_flat.proofs.Spans.{no_strings}
 use Rattle.perf_records.specs.Records.{lost_samples_is}
-use Rattle.perf_types.specs.LostSamples.{lost_samples}
+use Rattle.perf_types.specs.Numbers.{lost_samples}
 use Rattle.perf_flat.proofs.bodies.put_lost_samples.Goals as goal
 
 pub returns : goal.returns

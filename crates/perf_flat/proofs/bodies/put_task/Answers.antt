@@ -4,7 +4,7 @@ use Rattle.perf_flat.proofs.RecordWrites.{next_number}
 use Rattle.perf_flat.proofs.CursorRuns.{all_read}
 use Rattle.perf_flat.proofs.Spans.{no_strings}
 use Rattle.perf_records.specs.Records.{exit_is, fork_is}
-use Rattle.perf_types.specs.Exit.{exit}
+use Rattle.perf_types.specs.Numbers.{exit}
 use Rattle.perf_flat.proofs.bodies.put_task.Goals as goal
 
 pub returns-clause-exit : goal.returns-clause-exit

@@ -4,7 +4,7 @@ use Rattle.perf_flat.proofs.RecordWrites.{next_number}
 use Rattle.perf_flat.proofs.CursorRuns.{all_read}
 use Rattle.perf_flat.proofs.Spans.{no_strings}
 use Rattle.perf_records.specs.Records.{throttle_is, unthrottle_is}
-use Rattle.perf_types.specs.Throttle.{throttle}
+use Rattle.perf_types.specs.Numbers.{throttle}
 use Rattle.perf_flat.proofs.bodies.put_throttle.Goals as goal
 
 pub returns-clause-throttle : goal.returns-clause-throttle

@@ -7,9 +7,3 @@ returns-then-out g c = search (rules, chain)
 
 pub returns-else-out : goal.returns-else-out
 returns-else-out g c = search (rules, chain)
-
-pub returns-in_err-pid : goal.returns-in_err-pid
-returns-in_err-pid g c = search (rules, chain)
-
-pub returns-in_err-tid : goal.returns-in_err-tid
-returns-in_err-tid g c = search (rules, chain)

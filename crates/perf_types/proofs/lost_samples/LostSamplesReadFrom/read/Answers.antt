@@ -1,9 +1,0 @@
-use Rattle.std.proofs.Common.{rules}
-use Rattle.perf_reader.proofs.Calls.{chain}
-use Rattle.perf_types.proofs.lost_samples.LostSamplesReadFrom.read.Goals as goal
-
-pub returns : goal.returns
-returns g c = search (rules, chain)
-
-pub returns-in_err-read_u64 : goal.returns-in_err-read_u64
-returns-in_err-read_u64 g c = search (rules, chain)
