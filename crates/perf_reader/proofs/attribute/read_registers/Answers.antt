@@ -1,0 +1,18 @@
+use Rattle.std.proofs.Common.{rules}
+use Rattle.perf_reader.proofs.Calls.{chain}
+use Rattle.perf_reader.proofs.attribute.read_registers.Goals as goal
+
+pub returns-clause-call : goal.returns-clause-call
+returns-clause-call g c = search (rules, chain)
+
+pub returns-in_err-read_u64_if-clause-call : goal.returns-in_err-read_u64_if-clause-call
+returns-in_err-read_u64_if-clause-call g c = search (rules, chain)
+
+pub returns-in_err-read_u32_if-clause-call : goal.returns-in_err-read_u32_if-clause-call
+returns-in_err-read_u32_if-clause-call g c = search (rules, chain)
+
+pub returns-in_err-read_u32_if-2-clause-call : goal.returns-in_err-read_u32_if-2-clause-call
+returns-in_err-read_u32_if-2-clause-call g c = search (rules, chain)
+
+pub returns-in_err-read_u64_if-2-clause-call : goal.returns-in_err-read_u64_if-2-clause-call
+returns-in_err-read_u64_if-2-clause-call g c = search (rules, chain)
