@@ -5,7 +5,7 @@ ghost use Rattle.perf_base.specs.Layout.{words_of};
 
 use perf_base::Endian;
 
-/// The most numbers in a block that is read when the input does not show them.
+// The most numbers in a block that is read when the input does not show them.
 pub(crate) const BLOCK_LEN: usize = 48;
 
 // The size of a number in bytes.

@@ -212,8 +212,8 @@ impl<'p, I: Input<'p>, E> Reader<I, E> {
         Some(count.checked_mul(size).is_some_and(|len| len <= left))
     }
 
-    /// The capacity, in items, that a list of `claimed` items gets before the first of them is
-    /// read. An item has eight bytes or more.
+    // The capacity, in items, that a list of `claimed` items gets before the first of them is
+    // read. An item has eight bytes or more.
     pub(crate) fn room_for(&self, claimed: usize) -> usize
         ensures { IsRoom (I.hint (input_of self.now)) claimed result }
     {
@@ -349,7 +349,7 @@ impl<'p, I: Input<'p>, E: Endian> Reader<I, E> {
 
 // ---- numbers that may be absent, and bytes that are skipped
 impl<'p, I: Input<'p>, E: Endian> Reader<I, E> {
-    /// A number of two bytes, if it is present.
+    // A number of two bytes, if it is present.
     #[inline]
     #[tactic(auto, using(crate::proofs::Steps::optionals))]
     pub(crate) fn read_u16_if(&mut self, present: bool) -> ReadResult<Option<u16>>
@@ -469,7 +469,7 @@ impl<'p, I: Input<'p>, E: Endian> Reader<I, E> {
 
 // ---- numbers of eight bytes, several at once
 impl<'p, I: Input<'p>, E: Endian> Reader<I, E> {
-    /// Whether the input shows `count` more numbers of eight bytes.
+    // Whether the input shows `count` more numbers of eight bytes.
     #[inline]
     pub(crate) fn shows_numbers(&self, count: usize) -> bool {
         count <= self.input.shown_bytes().len() / NUMBER_SIZE
