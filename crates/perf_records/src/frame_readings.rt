@@ -1,8 +1,9 @@
 //! What one whole frame contains.
 
-ghost use Rattle.std.specs.Prelude.{◌≡◌, false, Ok, IfErr, IsTrue, OnErr};
+ghost use Rattle.std.specs.Prelude.{◌≡◌, false, Ok, Err, IfErr, IsTrue, OnErr};
 ghost use Rattle.perf_base.specs.Configuration.{under_misc};
 ghost use Rattle.perf_base.specs.Refusals.{IsErrorOf, error_kinds};
+ghost use Rattle.perf_base.specs.declared.error.ParseError.{ParseError};
 ghost use Rattle.perf_buffers.specs.Prelude.{chunk_bytes, chunk_is_borrowed};
 ghost use Rattle.perf_records.specs.Answers.{split_after};
 ghost use Rattle.perf_records.specs.FrameReadings.{FrameGives, HasNoRoom, PutsSample, metadata_in};
@@ -24,6 +25,16 @@ use perf_base::{Endian, Kept, ParseConfig, ParseResult, Refusal};
 use perf_sample_types::sample::{Sample, clear_sample};
 use std::alloc::Global;
 
+// What a call returns for a frame that is refused. An error is large, so it is made where it is
+// returned: a caller that makes one itself clears space for it before it knows whether there is one.
+#[cold]
+#[inline(never)]
+fn refused<T>(refusal: Refusal) -> ParseResult<T>
+    ensures { (e : ParseError) × (result ≡ Err e) × IsErrorOf e refusal }
+{
+    Err(Kept::none().error_of(refusal))
+}
+
 impl<'c, 'p> Frame<'c, 'p> {
     // Makes an output from the frame's body; a refusal becomes an error.
     #[inline]
@@ -44,7 +55,7 @@ impl<'c, 'p> Frame<'c, 'p> {
         let (answer, _reads) = self.read(alloc, config, maker, state);
         match answer {
             Ok(output) => Ok(output),
-            Err(refusal) => Err(Kept::none().error_of(refusal)),
+            Err(refusal) => refused(refusal),
         }
     }
 
@@ -77,7 +88,7 @@ impl<'c, 'p> Frame<'c, 'p> {
         let header = self.header();
         match frame_end(config, header.type_, self.rest()) {
             Some(end) => Ok(RecordMetadata::from_parts(header.type_, header.misc, end.id)),
-            None => Err(Kept::none().error_of(Refusal::NoRoomForId)),
+            None => refused(Refusal::NoRoomForId),
         }
     }
 
