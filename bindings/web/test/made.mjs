@@ -70,6 +70,10 @@ export const mmap2 = (it) => frame(10, it.misc ?? 2, joined([
 export const mmap = (it) => frame(1, it.misc ?? 2, joined([
     bytesOf([4, it.pid], [4, it.pid], [8, it.address], [8, it.length], [8, it.offset ?? 0]), padded(it.name), id(it)]));
 
+/** Of a KSYMBOL the flag 1 is that the code goes. */
+export const ksymbol = (it) => frame(17, 0, joined([
+    bytesOf([8, it.address], [4, it.length], [2, 1], [2, it.flags ?? 0]), padded(it.name), id(it)]));
+
 export const lost = (it) => frame(2, 0, joined([bytesOf([8, 100], [8, it.lost]), id(it)]));
 
 /** Of a SWITCH 0x2000 in `misc` is out. */
