@@ -37,8 +37,15 @@ def retry(call, name, tries=100):
 
 
 class Browser:
-    """One window, in which pages from a disk are opened; what the page saves is in a folder. A kind of it says how it is
-    told a command of WebDriver, by `send`, and by `prefer` the colours that its reader prefers."""
+    """One window, in which pages are opened; what a page saves is in a folder. A kind of it says how it is told a command of
+    WebDriver, by `send`, and by `prefer` the colours that its reader prefers."""
+
+    TOOLS = ()
+
+    @classmethod
+    def missing(cls):
+        """The programs that are not here, as text."""
+        return " ".join(tool for tool in cls.TOOLS if not shutil.which(tool))
 
     def send(self, method, path, words=None):
         raise NotImplementedError

@@ -13,7 +13,6 @@ import csv
 import os
 import random
 import re
-import shutil
 import sys
 import tempfile
 import threading
@@ -696,9 +695,8 @@ def main():
     parser.add_argument("--megabytes", type=int, default=52)
     words = parser.parse_args()
     kind = next(kind for kind in BROWSERS if kind.NAME.lower() == words.browser)
-    missing = [tool for tool in kind.TOOLS if not shutil.which(tool)]
-    if missing:
-        print(f"skipped: in {kind.NAME}: no {' '.join(missing)}")
+    if kind.missing():
+        print(f"skipped: in {kind.NAME}: no {kind.missing()}")
         return 77
     tests = [test for test in TESTS if words.only in test.__name__] if not words.pictures else []
     with tempfile.TemporaryDirectory() as folder:
