@@ -31,15 +31,7 @@ export function bytesOf(...parts) {
     return bytes;
 }
 
-export function joined(list) {
-    const bytes = new Uint8Array(list.reduce((sum, it) => sum + it.length, 0));
-    let at = 0;
-    for (const part of list) {
-        bytes.set(part, at);
-        at += part.length;
-    }
-    return bytes;
-}
+export const joined = (list) => new Uint8Array(Buffer.concat(list));
 
 export function frame(type, misc, body) {
     return bytesOf([4, type], [2, misc], [2, 8 + body.length], body);
