@@ -549,8 +549,14 @@ def keys_reach_everything(page):
     page.browser.run("document.addEventListener('focusin', ({ target }) => { target.dataset.reached = '1'; })")
     for turn in range(5):
         page.settle()
-        page.browser.press(*["Tab"] * 60)
-        same(page.browser.run(UNREACHED), [], f"what Tab does not reach in view {turn}")
+        # From the top, and no further than needed: after the last control some browsers leave the page.
+        page.browser.run("document.activeElement.blur(); getSelection().collapse(document.body, 0)")
+        unreached = page.browser.run(UNREACHED)
+        for _ in range(60):
+            if unreached:
+                page.browser.press("Tab")
+                unreached = page.browser.run(UNREACHED)
+        same(unreached, [], f"what Tab does not reach in view {turn}")
         page.browser.run("document.querySelector('[role=tab][aria-selected=true]').focus()")
         page.browser.press("ArrowRight")
     same(page.state().get("tab"), None, "arrows go around the views")
