@@ -13,7 +13,7 @@ import sys
 from pathlib import Path
 
 HERE = Path(__file__).resolve().parent
-NO_PROGRAMS = ["perf_bench"]
+NO_PROGRAMS = ["perf_bench", "perf_file_bench"]
 VERSION = (HERE / "VERSION").read_text().strip()
 OTHERS = ["perf-record (1)", "perf_event_open (2)"]
 PAGE = """.TH {upper} 1 "" "perf_event_data {version}" "Records of Linux performance events"

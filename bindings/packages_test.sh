@@ -70,10 +70,10 @@ try_wheel() {
         try "the wheel has $file" sh -c '[ -n "$(find "$1" -path "*/perf_event_data*/$2")" ]' sh "$work/venv" "$file"
     done
     if command -v mypy >/dev/null; then
-        try "type hints of first.py, by mypy" \
-            mypy --strict --cache-dir=/dev/null --python-executable "$python" "$work/first.py"
+        try "type hints of first.py and of the module, by mypy" \
+            mypy --strict --cache-dir=/dev/null --python-executable "$python" "$work/first.py" "$here/python/perf_event_data.py"
     else
-        skip "type hints of first.py: no mypy"
+        skip "type hints of first.py and of the module: no mypy"
     fi
     try "pip wheel, over the sources" env PERF_EVENT_DATA_SO="$shared" \
         PERF_EVENT_DATA_LICENCES="$work/out/licences" "$python" -m pip wheel --quiet --no-index \

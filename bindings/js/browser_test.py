@@ -1,21 +1,24 @@
 #!/usr/bin/env python3
-"""Reads a recording in Chromium, by the module in a folder that `make -C bindings js` made:
+"""Reads a recording in Chromium and in Firefox, by the module in a folder that `make -C bindings js` made:
 
     bindings/js/browser_test.py FOLDER
 
 A page of this machine's own, under a Content-Security-Policy that allows WebAssembly, prints the names of the tasks in
 examples/recording.stream, which must be those that crates/perf_uses prints, and counts the samples of
-examples/events.data, as examples/events.samples has them. The status is 0 if all are the same.
+examples/events.data, as examples/events.samples has them. A line says of each browser whether it passed, failed or was
+skipped; the status is 0 if none failed.
 """
-import html
 import re
-import subprocess
 import sys
 import tempfile
 import threading
 from functools import partial
 from http.server import SimpleHTTPRequestHandler, ThreadingHTTPServer
 from pathlib import Path
+
+sys.dont_write_bytecode = True
+sys.path.insert(0, str(Path(__file__).resolve().parents[1] / "web"))
+from browser import BROWSERS  # noqa: E402
 
 TOP = Path(__file__).resolve().parents[2]
 POLICY = "default-src 'none'; script-src 'self' 'unsafe-inline' 'wasm-unsafe-eval'; connect-src 'self'"
@@ -73,27 +76,37 @@ class Files(SimpleHTTPRequestHandler):
         pass
 
 
-def text_of_page(port):
+def text_of_page(kind, port):
+    """The text of the page in a kind of browser."""
     with tempfile.TemporaryDirectory() as room:
-        words = ["chromium", "--headless", "--no-sandbox", "--disable-gpu", f"--user-data-dir={room}",
-                 "--virtual-time-budget=30000", "--dump-dom", f"http://127.0.0.1:{port}/"]
-        ran = subprocess.run(words, capture_output=True, text=True, timeout=120)
-    found = re.search("<pre>(.*?)</pre>", ran.stdout, re.S)
-    return html.unescape(found[1]) if found else ran.stderr
+        browser = kind(room)
+        try:
+            browser.go(f"http://127.0.0.1:{port}/")
+            return browser.wait("const text = document.querySelector('pre').textContent; return text !== 'nothing' && text")
+        except AssertionError as error:
+            return str(error)
+        finally:
+            browser.close()
 
 
 def main(folder):
     server = ThreadingHTTPServer(("127.0.0.1", 0), partial(Files, directory=folder))
     threading.Thread(target=server.serve_forever, daemon=True).start()
-    found = text_of_page(server.server_address[1]).splitlines()
     printed = (TOP / "crates/perf_uses/stdout").read_text().splitlines()
     names = [line for line in printed if re.match("[0-9]+ [0-9]+ is ", line)]
     counts = (TOP / "examples/events.samples").read_text().splitlines()
-    print(f"{len(names)} names, and {len(counts)} counts of samples")
-    if not names or not counts or found != names + counts:
-        print(*found, "not", *names, *counts, sep="\n")
-        return 1
-    return 0
+    status = 0
+    for kind in BROWSERS:
+        if kind.missing():
+            print(f"skipped: in {kind.NAME}: no {kind.missing()}")
+            continue
+        found = text_of_page(kind, server.server_address[1]).splitlines()
+        if names and counts and found == names + counts:
+            print(f"passed: in {kind.NAME}: {len(names)} names, and {len(counts)} counts of samples")
+        else:
+            status = 1
+            print(f"FAILED: in {kind.NAME}", *found, "not", *names, *counts, sep="\n")
+    return status
 
 
 if __name__ == "__main__":

@@ -2,47 +2,34 @@
 
 import { NUMBERS, OWN, putNumbers } from "./batch.mjs";
 import { FIELDS, TYPES } from "./fields.mjs";
+import { Growing } from "./growing.mjs";
 import { BATCH, FRAME_BYTES } from "./machine.mjs";
 
-/** A typed array that grows: of numbers of 8, 16, 32 or 64 bits. Those of 64 bits are put as two halves. */
-class Growing {
-    constructor(width) {
-        this.width = width;
-        this.each = width === 64 ? 2 : 1;
-        this.type = width === 8 ? Uint8Array : width === 16 ? Uint16Array : Uint32Array;
-        this.array = new this.type(BATCH * this.each);
-        this.length = 0;
-    }
+/** A column of numbers of a type, which are 0 until they are put. */
+class Column extends Growing {
+    constructor(Type) { super(Type, BATCH); }
 
-    /** Makes room for `count` more numbers, which are 0, and returns the place of the first. */
-    extend(count) {
-        const first = this.length;
-        this.length += count * this.each;
-        if (this.length > this.array.length) {
-            const more = new this.type(Math.max(2 * this.array.length, this.length));
-            more.set(this.array);
-            this.array = more;
-        }
-        return first;
-    }
-
-    done() {
-        const numbers = this.array.slice(0, this.length);
-        return this.width === 64 ? new BigUint64Array(numbers.buffer) : numbers;
-    }
+    done() { return this.array.slice(0, this.length); }
 }
 
-/** A column of numbers, 0 where one is absent. */
-class NumberColumn extends Growing {
+/** A column of numbers of 16, 32 or 64 bits, 0 where one is absent. Those of 64 bits are put as two halves. */
+class NumberColumn extends Column {
     constructor({ width, place, has }) {
-        super(width);
+        super(width === 16 ? Uint16Array : Uint32Array);
+        this.width = width;
+        this.each = width === 64 ? 2 : 1;
         this.place = place;
         this.has = has;
     }
 
+    done() {
+        const numbers = super.done();
+        return this.width === 64 ? new BigUint64Array(numbers.buffer) : numbers;
+    }
+
     add(batch) {
         const { each, has, place, width } = this;
-        const to = this.extend(batch.count);
+        const to = this.extend(batch.count * each);
         const { array } = this;
         const [from, row] = [width === 16 ? batch.halves : batch.words, FRAME_BYTES / Math.min(width / 8, 4)];
         for (let i = 0; i < batch.count; i++) {
@@ -90,9 +77,9 @@ class SpanColumn {
 }
 
 /** A column of 1 for each frame that has the field of a column, else 0. */
-export class PresenceColumn extends Growing {
+export class PresenceColumn extends Column {
     constructor(name, others) {
-        super(8);
+        super(Uint8Array);
         this.has = columnOf(name, others).has;
     }
 
@@ -105,12 +92,10 @@ export class PresenceColumn extends Growing {
 }
 
 /** A column of what is no number of a frame: `put` writes those of a batch to an array from a place on. */
-class OtherColumn extends Growing {
+class OtherColumn extends Column {
     constructor({ put, type }) {
-        super(32);
+        super(type);
         this.put = put;
-        this.type = type;
-        this.array = new type(BATCH);
     }
 
     add(batch) {

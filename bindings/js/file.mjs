@@ -4,6 +4,7 @@
 import { numbersOf } from "./batch.mjs";
 import { BIG, bytesOf, viewOf } from "./config.mjs";
 import { ENTRY_WORDS, EVENT, NUMBER, OWNER, putOffset } from "./entries.mjs";
+import { featuresIn } from "./features.mjs";
 import { FILE_REFUSALS } from "./fields.mjs";
 import { FileFrames } from "./file_frames.mjs";
 import { PieceReader } from "./file_readers.mjs";
@@ -18,7 +19,7 @@ const LEAST_ENTRY = 80;
 const PLACE_BYTES = 16;
 // Where the head has the place of the frames, and the bits of the features; that of the descriptions of events.
 const [FRAMES, FEATURES] = [40, 72];
-const DESCRIPTIONS = 12n;
+const DESCRIPTIONS = 12;
 // The types whose frames announce bytes after them that are no frames, and the width of that number.
 const ANNOUNCING = { 66: 4, 71: 8 };
 
@@ -55,38 +56,22 @@ function frontOf(bytes) {
     return bytes.subarray(0, end);
 }
 
-/** Where the descriptions of events are in a file whose frames end at `end`, or undefined if it has none. */
-function descriptionsIn(view, isLittle, end) {
-    const number = (at) => Number(view.getBigUint64(at, isLittle));
-    const bits = view.getBigUint64(FEATURES, isLittle);
-    if (number(FRAMES + 8) === 0 || !(bits >> DESCRIPTIONS & 1n)) {
-        return undefined;
-    }
-    const before = (bits & (1n << DESCRIPTIONS) - 1n).toString(2).replaceAll("0", "").length;
-    const at = end + PLACE_BYTES * before;
-    if (at + PLACE_BYTES > view.byteLength) {
-        return undefined;
-    }
-    const [start, size] = [number(at), number(at + 8)];
-    return start + size <= view.byteLength ? [start, size] : undefined;
-}
-
 /** A file with the front of another one, whose frames are eight bytes, and whose only feature is the descriptions of
  * events: all that the library reads to find their names. Without descriptions it has no bytes. */
-function namedFront({ bytes, view, isLittle, file }) {
-    const found = descriptionsIn(view, isLittle, file.end);
+function namedFront({ bytes, isLittle }) {
+    const found = featuresIn(bytes, isLittle).get(DESCRIPTIONS);
     if (found === undefined) {
         return new Uint8Array();
     }
-    const [start, size] = found;
+    const described = bytes.subarray(...found);
     const front = frontOf(bytes);
     const table = front.length + 8;
-    const made = new Uint8Array(table + PLACE_BYTES + size);
+    const made = new Uint8Array(table + PLACE_BYTES + described.length);
     made.set(front);
     made.fill(0, FEATURES, HEAD_BYTES);
-    made.set(bytes.subarray(start, start + size), table + PLACE_BYTES);
-    const numbers = [[FRAMES, front.length], [FRAMES + 8, 8], [FEATURES, 2 ** Number(DESCRIPTIONS)],
-        [table, table + PLACE_BYTES], [table + 8, size]];
+    made.set(described, table + PLACE_BYTES);
+    const numbers = [[FRAMES, front.length], [FRAMES + 8, 8], [FEATURES, 2 ** DESCRIPTIONS],
+        [table, table + PLACE_BYTES], [table + 8, described.length]];
     numbers.forEach(([at, number]) => viewOf(made).setBigUint64(at, BigInt(number), isLittle));
     return made;
 }

@@ -3,6 +3,7 @@
 import { Batch } from "./batch.mjs";
 import { ENTRY_WORDS, EVENT, offsetAt, OWNER, PERF, putOffset } from "./entries.mjs";
 import { BATCH, CUT_HEADER, FRAME_BYTES, LIMIT } from "./machine.mjs";
+import { Reader } from "./readers.mjs";
 
 const HEADER_BYTES = 8;
 // The kinds of a frame's refusal, and the reason of one that is smaller than a header.
@@ -10,15 +11,8 @@ const [EOF, INVALID_RECORD, UNSUPPORTED_CONFIG] = [1, 2, 3];
 const SMALL_HEADER = 1;
 
 /** Reads the frames of a file in its order, a batch at a time. */
-export class PieceReader {
-    constructor(machine, source) {
-        this.machine = machine;
-        this.source = source;
-        this.taken = source.file.at;
-        this.count = 0;
-        this.how = LIMIT;
-        this.starts = new Float64Array(BATCH);
-    }
+export class PieceReader extends Reader {
+    constructor(machine, source) { super(machine, source, source.file.at); }
 
     /** Reads the entries of the next batch, and returns how many there are; 0 after the last. */
     next() {
@@ -37,27 +31,16 @@ export class PieceReader {
             this.starts[i] = this.taken + offsetAt(this.entries, i);
         }
         if (this.taken + piece.length < file.end) {
-            this.#leaveCut(read, piece.length);
+            this.leaveLast(read, piece.length);
         }
-        [this.last, this.length] = [read.count, piece.length];
-        this.count += read.count;
-        this.taken += read.taken;
-        this.how = read.how;
-        return read.count;
+        this.length = piece.length;
+        return this.take(read);
     }
 
-    /** Of a piece that more frames follow, leaves one that is not whole in it, with what it announces, for the next
-     * piece, unless it is the first. */
-    #leaveCut(read, length) {
-        read.how = LIMIT;
-        if (read.taken < length) {
-            return;
-        }
-        const last = read.count - 1;
-        if (last > 0) {
-            read.count = last;
-            read.taken = this.starts[last] - this.taken;
-        } else {
+    /** Of a frame that is the only one, takes also what it announces after the piece. */
+    leaveLast(read, length) {
+        super.leaveLast(read, length);
+        if (read.taken >= length) {
             read.taken = Math.min(this.source.lengthAt(this.taken), this.source.file.end - this.taken);
         }
     }

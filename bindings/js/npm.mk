@@ -4,8 +4,8 @@
 WASM = wasm64-unknown-unknown
 WASM_ARCHIVE = $(TOP)/crates/perf_event_c/out/$(WASM)/libperf_event_c.a
 JS = $(HERE)/js
-JS_MODULES = perf_event_data.mjs batch.mjs columns.mjs config.mjs entries.mjs fields.mjs file.mjs file_frames.mjs \
-    file_readers.mjs frames.mjs machine.mjs stream.mjs
+JS_MODULES = perf_event_data.mjs batch.mjs columns.mjs config.mjs entries.mjs features.mjs fields.mjs file.mjs \
+    file_frames.mjs file_readers.mjs frames.mjs growing.mjs machine.mjs readers.mjs stream.mjs
 JS_FILES = $(addprefix $(JS)/,$(JS_MODULES) perf_event_data.d.mts package.json README.md)
 
 $(WASM_ARCHIVE):

@@ -4,20 +4,14 @@ import { Batch } from "./batch.mjs";
 import { bytesOf, Config, isFile } from "./config.mjs";
 import { ENDED, Frames, READER } from "./frames.mjs";
 import { BATCH, ENDS, LIMIT } from "./machine.mjs";
+import { Reader } from "./readers.mjs";
 
 export const NO_STREAM = "this is a file of `perf record`, not a stream: open it by `open`, or print it by the program"
     + " perf_data";
 
 /** Reads the frames of a stream, a batch at a time. */
-class StreamReader {
-    constructor(machine, source) {
-        this.machine = machine;
-        this.source = source;
-        this.taken = source.start;
-        this.count = 0;
-        this.how = LIMIT;
-        this.starts = new Float64Array(BATCH);
-    }
+class StreamReader extends Reader {
+    constructor(machine, source) { super(machine, source, source.start); }
 
     /** Reads the next batch, and returns how many frames are in it; 0 after the last. They are in the module's
      * memory until anything else is read. */
@@ -32,13 +26,9 @@ class StreamReader {
         const ended = this.machine.readMany(piece.length, Math.min(BATCH, limit - this.count));
         this.#placeFrames(ended.count);
         if (this.taken + piece.length < bytes.length) {
-            this.#leaveCut(ended, piece.length);
+            this.leaveLast(ended, piece.length);
         }
-        this.last = ended.count;
-        this.count += ended.count;
-        this.taken += ended.taken;
-        this.how = ended.how;
-        return ended.count;
+        return this.take(ended);
     }
 
     /** Computes where each frame begins. */
@@ -47,20 +37,6 @@ class StreamReader {
         for (let [i, at] = [0, this.taken]; i < count; i++) {
             this.starts[i] = at;
             at += batch.size(i);
-        }
-    }
-
-    /** Of a piece that more bytes follow, leaves a frame that is not whole in it for the next one. */
-    #leaveCut(ended, length) {
-        ended.how = LIMIT;
-        if (ended.taken < length) {
-            return;
-        }
-        const last = ended.count - 1;
-        const batch = this.#batchOf(ended.count);
-        if (this.starts[last] + batch.size(last) > this.taken + length) {
-            ended.count = last;
-            ended.taken = this.starts[last] - this.taken;
         }
     }
 

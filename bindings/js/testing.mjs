@@ -150,15 +150,7 @@ export function frameOf(type, misc, body, size) {
 export const lost = frameOf(13, 0, [[8, 5]]);
 export const zeros = (count) => Array(count).fill([1, 0]);
 
-export function joined(...parts) {
-    const all = new Uint8Array(parts.reduce((sum, part) => sum + part.length, 0));
-    let at = 0;
-    for (const part of parts) {
-        all.set(part, at);
-        at += part.length;
-    }
-    return all;
-}
+export const joined = (...parts) => new Uint8Array(Buffer.concat(parts));
 
 export function repeated(bytes, count) {
     const all = new Uint8Array(bytes.length * count);

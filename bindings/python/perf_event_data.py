@@ -31,7 +31,7 @@ import os
 import struct
 import sys
 from array import array
-from collections.abc import Iterator, Sequence
+from collections.abc import Callable, Iterator, Sequence
 from typing import TYPE_CHECKING, Any, overload
 
 if TYPE_CHECKING:
@@ -256,12 +256,12 @@ def _address(view: memoryview) -> int:
     """Returns where the bytes of a view are, read-only or not; they stay there while the view exists."""
     buffer = (ctypes.c_void_p * 16)()  # more than a Py_buffer needs, of which the first field is the address
     ctypes.pythonapi.PyObject_GetBuffer(ctypes.py_object(view), buffer, 0)
-    address = buffer[0]
+    address = buffer[0] or 0
     ctypes.pythonapi.PyBuffer_Release(buffer)
     return address
 
 
-def _bytes_view(data) -> memoryview:
+def _bytes_view(data: Any) -> memoryview:
     """Returns the bytes of any object that has some, in one piece."""
     view = memoryview(data)
     return view if view.format == "B" and view.ndim == 1 and view.contiguous else view.cast("B")
@@ -295,7 +295,7 @@ def _is_present(present: int, forms: int, _name: str, flags: str = "", needed: s
 
 
 @functools.lru_cache(maxsize=None)
-def _fields(read: int, present: int, read_format: int, misc: int) -> tuple:
+def _fields(read: int, present: int, read_format: int, misc: int) -> tuple[Any, ...]:
     """Returns the names and places of the numbers that a record has, and of its spans, with their items."""
     forms = read_format | (0 if read_format & 8 else 32) | (64 if misc & _BUILD_ID else 128)
     numbers, spans = ([(place, field[0]) for place, field in enumerate(part) if _is_present(present, forms, *field)]
@@ -380,7 +380,8 @@ class Frame:
         """Why there is no record; "" if there is one."""
         if self._row[4] == 3 and self._owner and self._owner[1] != _EVENT:
             return _NO_EVENT[self._owner[1]]
-        return _REASONS.get(self._row[5]) or _TEXTS.get(self._row[4], "")
+        reason = _REASONS.get(self._row[5])
+        return _TEXTS.get(self._row[4], "") if reason is None else reason
 
     @property
     def fields(self) -> dict[str, Any]:
@@ -399,11 +400,13 @@ class Frame:
             fields[name] = self._items(span, each) if each else span
         return fields
 
-    def _items(self, span: memoryview, each: int) -> list:
+    def _items(self, span: memoryview, each: int) -> list[Any]:
         words = array("Q", span.tobytes())
         if (self._order == BIG) != (sys.byteorder == "big"):
             words.byteswap()
-        return words.tolist() if each == 1 else list(zip(*[iter(words)] * each))
+        if each == 1:
+            return words.tolist()
+        return list(zip(*[iter(words)] * each))
 
 
 class Frames(Sequence[Frame]):
@@ -443,7 +446,8 @@ class Frames(Sequence[Frame]):
         if how > 2:
             raise Error("the configuration is of another version, or has no such order")
         self.end = ENDS[how]
-        lengths = map(max, _numbers(self.rows, "H", 6), itertools.repeat(8))
+        larger: Callable[[int, int], int] = max
+        lengths = map(larger, _numbers(self.rows, "H", 6), itertools.repeat(8))
         self.starts = array("Q", itertools.accumulate(itertools.chain([start], lengths)))
 
     def __repr__(self) -> str:
@@ -513,7 +517,7 @@ class Frames(Sequence[Frame]):
                 some = numpy.frombuffer(rows, found.dtype)[at // width::_ROW.size // width]
                 found[first:first + len(some)] = some
             return found
-        kinds = [(name, f"=u{struct.calcsize('=' + own[0])}") for name, own in _OWN.items()]
+        kinds: list[Any] = [(name, f"=u{struct.calcsize('=' + own[0])}") for name, own in _OWN.items()]
         kinds += [("numbers", "=u8", 24), ("spans", [("at", "=u4"), ("len", "=u4")], 8)]
         return numpy.frombuffer(self.rows, kinds)
 

@@ -1,6 +1,7 @@
 // What is kept of each frame, in the order of the file, and of each record that something follows from.
 
-import { Growing, Table, Triples } from "./growing.mjs";
+import { Growing } from "../../js/growing.mjs";
+import { Table, Triples } from "./growing.mjs";
 
 /** Types of records. */
 export const MMAP = 1;
@@ -16,6 +17,7 @@ export const LOST_SAMPLES = 13;
 export const SWITCH = 14;
 export const SWITCH_CPU_WIDE = 15;
 export const NAMESPACES = 16;
+export const KSYMBOL = 17;
 /** From this type on frames are perf's own. */
 export const PERF = 64;
 
@@ -36,8 +38,8 @@ export class FrameTable extends Table {
             // Nanoseconds after the first time, -Infinity without one.
             time: Float64Array,
             task: Uint32Array, cpu: Uint32Array,
-            // Of a sample or a mapping its number, of a COMM that of its text, of a FORK or EXIT the parent, of a
-            // refused frame that of the text of its reason.
+            // Of a sample, a mapping or a KSYMBOL its number, of a COMM that of its text, of a FORK or EXIT the parent,
+            // of a refused frame that of the text of its reason.
             extra: Int32Array,
         }, room);
     }
@@ -79,8 +81,8 @@ export class SampleAddresses extends Table {
     /** Puts a chain, of which there are the lower and the upper half of each number. */
     #putChain(halves) {
         const { chains, addresses } = this;
-        let to = chains.length;
-        const array = chains.extend(halves.length / 2);
+        let to = chains.extend(halves.length / 2);
+        const { array } = chains;
         for (let at = 0; at < halves.length; at += 2) {
             const [lower, upper] = [halves[at], halves[at + 1]];
             array[to++] = upper === 0xffffffff && lower >= LEAST_MARK ? MARKS.get(lower) ?? OTHERS_FOLLOW
@@ -91,7 +93,8 @@ export class SampleAddresses extends Table {
 
 const HALVES = ["firstUpper", "firstLower", "lastUpper", "lastLower", "offsetUpper", "offsetLower"];
 
-/** The mappings of processes: addresses from `first` to `last` are a file's from an offset on. */
+/** The mappings of processes: addresses from `first` to `last` are a file's from an offset on. Those of
+ * the kernel are code with a name, whose number is in the place of that of the file. */
 export class MappingTable extends Table {
     constructor() {
         super({

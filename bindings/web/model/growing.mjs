@@ -1,47 +1,15 @@
-// Typed arrays that grow, and numbers for what is often the same.
+// Tables that grow, and numbers for what is often the same.
 
-/** A typed array that grows by itself. */
-export class Growing {
-    constructor(Type, room = 1024) {
-        this.array = new Type(room);
-        this.length = 0;
-    }
-
-    /** Puts a number at the end, and returns its place. */
-    push(value) {
-        const place = this.length;
-        if (place === this.array.length) {
-            this.#grow(place + 1);
-        }
-        this.array[place] = value;
-        this.length = place + 1;
-        return place;
-    }
-
-    /** Makes room for `count` more numbers, which the caller puts there, and returns the array. */
-    extend(count) {
-        this.length += count;
-        if (this.length > this.array.length) {
-            this.#grow(this.length);
-        }
-        return this.array;
-    }
-
-    #grow(least) {
-        const more = new this.array.constructor(Math.max(2 * this.array.length, least));
-        more.set(this.array);
-        this.array = more;
-    }
-}
+import { withRoom } from "../../js/growing.mjs";
 
 /** Rows of numbers: a typed array for each column, by its name. There are `count` rows, and then room for more. */
 export class Table {
-    #types;
+    #names;
     #room;
 
     constructor(types, room = 256) {
         this.count = 0;
-        this.#types = types;
+        this.#names = Object.keys(types);
         this.#room = room;
         for (const [name, Type] of Object.entries(types)) {
             this[name] = new Type(room);
@@ -52,10 +20,8 @@ export class Table {
     addRow() {
         if (this.count === this.#room) {
             this.#room *= 2;
-            for (const [name, Type] of Object.entries(this.#types)) {
-                const more = new Type(this.#room);
-                more.set(this[name]);
-                this[name] = more;
+            for (const name of this.#names) {
+                this[name] = withRoom(this[name], this.#room);
             }
         }
         return this.count++;
@@ -128,9 +94,7 @@ export class Triples {
 
     #grow() {
         for (const name of ["first", "second", "third"]) {
-            const more = new Uint32Array(2 * this.count);
-            more.set(this[name]);
-            this[name] = more;
+            this[name] = withRoom(this[name], 2 * this.count);
         }
         const slots = new Uint32Array(4 * this.count);
         const mask = slots.length - 1;

@@ -4,10 +4,9 @@
 // what it states outside the file is left out.
 
 import { viewOf } from "../../js/config.mjs";
+import { featuresIn } from "../../js/features.mjs";
 import { textOf } from "./text.mjs";
 
-const FEATURE_BITS = 72;
-const FEATURES = 256;
 const TEXTS = { hostname: 3, osRelease: 4, perfVersion: 5, architecture: 6, processor: 8 };
 const PROCESSORS = 7;
 const MEMORY = 10;
@@ -55,28 +54,6 @@ function beforeZero(bytes) {
     return textOf(bytes.subarray(0, Math.min(end < 0 ? bytes.length : end, MOST)));
 }
 
-/** The bytes of each feature, by its number. */
-function featuresOf(bytes, isLittle) {
-    const view = viewOf(bytes);
-    const u64 = (at) => Number(view.getBigUint64(at, isLittle));
-    const features = new Map();
-    if (u64(48) === 0) {
-        return features; // perf was killed
-    }
-    let at = u64(40) + u64(48);
-    for (let bit = 0; bit < FEATURES && at + 16 <= bytes.length; bit++) {
-        const word = view.getBigUint64(FEATURE_BITS + 8 * (bit >> 6), isLittle);
-        if (word >> BigInt(bit & 63) & 1n) {
-            const [from, size] = [u64(at), u64(at + 8)];
-            if (from + size <= bytes.length) {
-                features.set(bit, bytes.subarray(from, from + size));
-            }
-            at += 16;
-        }
-    }
-    return features;
-}
-
 function commandLine(words) {
     const count = words.u32();
     const parts = [];
@@ -92,8 +69,9 @@ function commandLine(words) {
 
 /** What the features state, as texts. */
 export function headerOf(bytes, isLittle) {
-    const features = featuresOf(bytes, isLittle);
-    const read = (number, call) => features.has(number) ? call(new Words(features.get(number), isLittle)) : undefined;
+    const places = featuresIn(bytes, isLittle);
+    const read = (number, call) => places.has(number)
+        ? call(new Words(bytes.subarray(...places.get(number)), isLittle)) : undefined;
     const header = {};
     for (const [name, number] of Object.entries(TEXTS)) {
         header[name] = read(number, (words) => words.text());

@@ -2,13 +2,13 @@
 // threads ran. So each sample gets its place in the tree of call chains.
 
 import {
-    COMM, EXIT, FORK, KERNEL_FOLLOWS, LOST, LOST_SAMPLES, MMAP, MMAP2, NO_CPU, NO_TASK, NOTHING, OTHERS_FOLLOW, SAMPLE,
-    SWITCH, SWITCH_CPU_WIDE, USER_FOLLOWS,
+    COMM, EXIT, FORK, KERNEL_FOLLOWS, KSYMBOL, LOST, LOST_SAMPLES, MMAP, MMAP2, NO_CPU, NO_TASK, NOTHING,
+    OTHERS_FOLLOW, SAMPLE, SWITCH, SWITCH_CPU_WIDE, USER_FOLLOWS,
 } from "./frames.mjs";
 import { Table } from "./growing.mjs";
 import { PlaceFinder } from "./places.mjs";
 import { Running } from "./running.mjs";
-import { Spaces } from "./spaces.mjs";
+import { KERNEL, Spaces } from "./spaces.mjs";
 import { CallTree } from "./tree.mjs";
 
 /** PERF_RECORD_MISC_COMM_EXEC, PERF_RECORD_MISC_FORK_EXEC, with which perf marks forks that it made up, and
@@ -87,6 +87,11 @@ export class History {
             case MMAP2:
                 if (extra !== NOTHING) {
                     this.spaces.map(extra);
+                }
+                break;
+            case KSYMBOL:
+                if (extra !== NOTHING) {
+                    this.spaces.map(extra, KERNEL);
                 }
                 break;
             case COMM:
@@ -219,8 +224,8 @@ export class History {
 
     #placeOf(space, address, mode) {
         if (mode === MODES.user) {
-            return this.finder.user(space, space.state, address);
+            return this.finder.user(space, address);
         }
-        return mode === MODES.kernel ? this.finder.kernel(address) : this.places.unknown;
+        return mode === MODES.kernel ? this.finder.kernel(this.spaces.of(KERNEL), address) : this.places.unknown;
     }
 }

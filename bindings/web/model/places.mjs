@@ -1,21 +1,29 @@
-// Places in code: a file and an offset in it, an address of the kernel, or unknown.
+// Places in code: a file and an offset in it, an address of the kernel, code of it that has a name, or unknown.
 
-import { Growing, Texts, Triples } from "./growing.mjs";
+import { Growing } from "../../js/growing.mjs";
+import { Texts, Triples } from "./growing.mjs";
 import { hexOf } from "./text.mjs";
 
 const UNKNOWN = 0;
 const KERNEL = 1;
-const FILES = 2;
+const NAMED = 2;
+const FILES = 3;
+/** In place of the number of a name: the code is gone. */
+export const GONE = 0xffffffff;
 
 /** Places by their numbers. What is at a place may have a name in a table of symbols. */
 export class Places {
     constructor() {
         this.ids = new Triples();
         this.files = new Texts();
+        this.names = new Texts();
         this.unknown = this.ids.numberOf(UNKNOWN, 0, 0);
     }
 
     kernel(upper, lower) { return this.ids.numberOf(KERNEL, upper, lower); }
+
+    /** Code of the kernel, by the number of its name. */
+    named(name) { return this.ids.numberOf(NAMED, name, 0); }
 
     inFile(file, upper, lower) { return this.ids.numberOf(file + FILES, upper, lower); }
 
@@ -24,14 +32,14 @@ export class Places {
         if (kind === UNKNOWN) {
             return "[unknown]";
         }
-        return kind === KERNEL ? `${hexOf(upper, lower)}_[k]`
+        return kind === KERNEL ? `${hexOf(upper, lower)}_[k]` : kind === NAMED ? `${this.names.list[upper]}_[k]`
             : `${this.files.list[kind - FILES]}+${hexOf(upper, lower)}`;
     }
 
     /** The name of a place by tables of symbols, or undefined. */
     symbolOf(place, symbols) {
         const [kind, upper, lower] = [this.ids.first[place], this.ids.second[place], this.ids.third[place]];
-        if (kind === UNKNOWN) {
+        if (kind === UNKNOWN || kind === NAMED) {
             return undefined;
         }
         const table = kind === KERNEL ? symbols.kernel : symbols.files.get(this.files.list[kind - FILES]);
@@ -52,7 +60,13 @@ export class PlaceFinder {
         [this.#cachedSpace, this.#cachedAddress, this.#cachedPlace] = [0, 1, 2].map(() => new Int32Array(1 << 16));
     }
 
-    kernel(address) {
+    /** The place of an address of the kernel, whose code has names since KSYMBOL records. */
+    kernel(space, address) {
+        return space.state === 0 ? this.#unnamed(address)
+            : this.#cached(space.state, address, () => this.#findNamed(space, address));
+    }
+
+    #unnamed(address) {
         while (this.#kernel.length <= address) {
             this.#kernel.push(-1);
         }
@@ -64,17 +78,27 @@ export class PlaceFinder {
         return place;
     }
 
-    /** The place of an address of a process: `state` is the number of what its address space is now. */
-    user(space, state, address) {
+    /** The place of an address of a process. */
+    user(space, address) {
+        return this.#cached(space.state, address, () => this.#find(space, address));
+    }
+
+    #cached(state, address, find) {
         const slot = (Math.imul(address, 0x9e3779b1) ^ Math.imul(state, 0x85ebca6b)) >>> 16;
         if (this.#cachedSpace[slot] === state && this.#cachedAddress[slot] === address) {
             return this.#cachedPlace[slot];
         }
-        const place = this.#find(space, address);
+        const place = find();
         this.#cachedSpace[slot] = state;
         this.#cachedAddress[slot] = address;
         this.#cachedPlace[slot] = place;
         return place;
+    }
+
+    #findNamed(space, address) {
+        const mapping = this.spaces.find(space, this.addresses.first[address], this.addresses.second[address]);
+        const name = mapping < 0 ? GONE : this.table.file[mapping];
+        return name === GONE ? this.#unnamed(address) : this.places.named(name);
     }
 
     #find(space, address) {

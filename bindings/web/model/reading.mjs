@@ -1,11 +1,11 @@
 // Reads all frames of a recording once, in the order of the file, and keeps of each what the model needs.
 
 import {
-    COMM, EXIT, FORK, FrameTable, ITRACE_START, LOST, LOST_SAMPLES, MappingTable, MMAP, MMAP2, NAMESPACES, NO_CPU,
-    NO_EVENT, NO_TASK, NOTHING, PERF, READ, SAMPLE, SampleAddresses, SWITCH, SWITCH_CPU_WIDE,
+    COMM, EXIT, FORK, FrameTable, ITRACE_START, KSYMBOL, LOST, LOST_SAMPLES, MappingTable, MMAP, MMAP2, NAMESPACES,
+    NO_CPU, NO_EVENT, NO_TASK, NOTHING, PERF, READ, SAMPLE, SampleAddresses, SWITCH, SWITCH_CPU_WIDE,
 } from "./frames.mjs";
 import { Texts } from "./growing.mjs";
-import { Places } from "./places.mjs";
+import { GONE, Places } from "./places.mjs";
 import { recordName } from "./record_names.mjs";
 import { Tasks } from "./tasks.mjs";
 import { lastPart, nameOf, textOf } from "./text.mjs";
@@ -15,6 +15,8 @@ const KERNEL_MODE = 1;
 const MODE = 7;
 const IS_DATA = 0x2000;
 const EXECUTABLE = 4n;
+/** In the flags of a KSYMBOL: the code goes. */
+const UNREGISTER = 1n;
 const NO_TIME = 0xffffffffffffffffn;
 const MOST_REFUSED = 1000;
 const MOST_TYPES = 1000;
@@ -23,7 +25,7 @@ const LONGEST_NAME = 256;
 const LONGEST_PATH = 4096;
 /** Records whose own fields tell which thread they are about, and others of which the fields are needed. */
 const ABOUT_TASKS = new Set([MMAP, MMAP2, COMM, EXIT, FORK, READ, ITRACE_START, NAMESPACES]);
-const WITH_FIELDS = new Set([...ABOUT_TASKS, SAMPLE, LOST, LOST_SAMPLES]);
+const WITH_FIELDS = new Set([...ABOUT_TASKS, KSYMBOL, SAMPLE, LOST, LOST_SAMPLES]);
 const WITHOUT_FILE = /^(?:\/\/anon$|\/dev\/zero|\/anon_hugepage|\[stack|\/SYSV|\[heap\]$)/;
 
 export class Reading {
@@ -147,6 +149,8 @@ export class Reading {
             case MMAP:
             case MMAP2:
                 return this.#mapping(frame, fields);
+            case KSYMBOL:
+                return this.#kernelSymbol(fields);
             case COMM:
                 return this.texts.numberOf(nameOf(textOf(fields.comm.subarray(0, LONGEST_NAME))));
             case FORK:
@@ -186,6 +190,15 @@ export class Reading {
         const isExecutable = type === MMAP ? (misc & IS_DATA) === 0 : (fields.prot & EXECUTABLE) !== 0n;
         const name = hasFile || !isExecutable ? nameOf(lastPart(path)) : `perf-${pid}.map`;
         return this.table.put(pid, fields.addr, fields.len, fields.pgoff, this.places.files.numberOf(name), !hasFile);
+    }
+
+    #kernelSymbol({ addr, len, flags, name }) {
+        if (len === 0n) {
+            return NOTHING;
+        }
+        const number = flags & UNREGISTER ? GONE
+            : this.places.names.numberOf(nameOf(textOf(name.subarray(0, LONGEST_PATH))));
+        return this.table.put(0, addr, len, 0n, number, true);
     }
 
     /** Counts a refused frame, and returns the number of the text of its reason. */

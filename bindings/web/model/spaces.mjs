@@ -2,6 +2,8 @@
 
 import { Mappings } from "./mappings.mjs";
 
+/** In place of a process: the kernel. */
+export const KERNEL = "kernel";
 const EMPTY = { root: 0, owner: 0, state: 0 };
 
 /** What each process has mapped. `state` of a space changes with it, and equal states are equal spaces. */
@@ -17,10 +19,9 @@ export class Spaces {
 
     of(pid) { return this.#spaces.get(pid) ?? EMPTY; }
 
-    /** A process maps something. */
-    map(mapping) {
+    /** A process maps something, or code of the kernel gets a name. */
+    map(mapping, pid = this.table.pid[mapping]) {
         const { table } = this;
-        const pid = table.pid[mapping];
         let space = this.#spaces.get(pid);
         if (space === undefined) {
             space = { root: 0, owner: ++this.#owners, state: 0 };

@@ -2,7 +2,7 @@
 // With sizes, by `nm -CS`, code that has no symbol has no name. With what `readelf -lW` prints in the same text, the
 // places of code whose addresses are not its offsets are known.
 
-import { Growing } from "./growing.mjs";
+import { Growing } from "../../js/growing.mjs";
 import { nameOf } from "./text.mjs";
 
 /** Types of symbols of code; U, which is not there, has no address. */

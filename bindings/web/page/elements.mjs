@@ -66,3 +66,17 @@ export function openDialog(title, ...contents) {
     inside.focus();
     return dialog;
 }
+
+/** Returns what calls `draw` at the next chance, once for all calls until then. */
+export function atNextChance(draw) {
+    let isDue = false;
+    return () => {
+        if (!isDue) {
+            isDue = true;
+            requestAnimationFrame(() => {
+                isDue = false;
+                draw();
+            });
+        }
+    };
+}

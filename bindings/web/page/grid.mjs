@@ -1,6 +1,6 @@
 // A table of which only the rows in sight are in the page.
 
-import { button, element } from "./elements.mjs";
+import { atNextChance, button, element } from "./elements.mjs";
 
 const ROW = 24;
 const HEAD = 28;
@@ -20,7 +20,6 @@ export class Grid {
     #total = 0;
     #rowAt = () => undefined;
     #active = -1;
-    #isDue = false;
     #id = `grid${grids++}`;
 
     /** `words` has `label`, and what is called: `onopen(row)`, `onactive(row)`, `onsort(key)` and
@@ -85,15 +84,7 @@ export class Grid {
     }
 
     /** Draws the rows in sight at the next chance. */
-    draw() {
-        if (!this.#isDue) {
-            this.#isDue = true;
-            requestAnimationFrame(() => {
-                this.#isDue = false;
-                this.#drawNow();
-            });
-        }
-    }
+    draw = atNextChance(() => this.#drawNow());
 
     #drawNow() {
         const first = this.#first;

@@ -1,6 +1,6 @@
 // A canvas that stays in place while what it shows is scrolled, with a text beside the pointer.
 
-import { byId, element } from "./elements.mjs";
+import { atNextChance, byId, element } from "./elements.mjs";
 import { CanvasPainter, SvgPainter } from "./painters.mjs";
 import { coloursOf, isDark } from "./colours.mjs";
 
@@ -29,7 +29,6 @@ export function announce(text) {
 
 export class Stage {
     #draw;
-    #isDue = false;
     #under = element("div", { class: "under" });
 
     /** `draw(painter, { width, height, top, colours })` draws what is in sight below `top`. */
@@ -68,15 +67,8 @@ export class Stage {
         }
     }
 
-    redraw() {
-        if (!this.#isDue) {
-            this.#isDue = true;
-            requestAnimationFrame(() => {
-                this.#isDue = false;
-                this.#drawNow();
-            });
-        }
-    }
+    /** Draws what is in sight at the next chance. */
+    redraw = atNextChance(() => this.#drawNow());
 
     #drawNow() {
         const { width, height } = this;

@@ -31,15 +31,7 @@ export function bytesOf(...parts) {
     return bytes;
 }
 
-export function joined(list) {
-    const bytes = new Uint8Array(list.reduce((sum, it) => sum + it.length, 0));
-    let at = 0;
-    for (const part of list) {
-        bytes.set(part, at);
-        at += part.length;
-    }
-    return bytes;
-}
+export const joined = (list) => new Uint8Array(Buffer.concat(list));
 
 export function frame(type, misc, body) {
     return bytesOf([4, type], [2, misc], [2, 8 + body.length], body);
@@ -69,6 +61,10 @@ export const mmap2 = (it) => frame(10, it.misc ?? 2, joined([
 
 export const mmap = (it) => frame(1, it.misc ?? 2, joined([
     bytesOf([4, it.pid], [4, it.pid], [8, it.address], [8, it.length], [8, it.offset ?? 0]), padded(it.name), id(it)]));
+
+/** Of a KSYMBOL the flag 1 is that the code goes. */
+export const ksymbol = (it) => frame(17, 0, joined([
+    bytesOf([8, it.address], [4, it.length], [2, 1], [2, it.flags ?? 0]), padded(it.name), id(it)]));
 
 export const lost = (it) => frame(2, 0, joined([bytesOf([8, 100], [8, it.lost]), id(it)]));
 

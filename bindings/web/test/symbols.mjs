@@ -1,7 +1,7 @@
-// Names of places by files of symbols.
+// Names of places, by files of symbols and by KSYMBOL records.
 
 import { folded, messageOf, opened, same } from "./harness.mjs";
-import { fileOf, mmap2, sample } from "./made.mjs";
+import { fileOf, ksymbol, mmap2, sample } from "./made.mjs";
 
 const NM = `                 U malloc@GLIBC_2.2.5
 0000000000001000 T first
@@ -75,4 +75,24 @@ export async function nameFixed() {
     same("addresses that are not offsets", await folded(other), [":1;right 1"]);
     await model.call("symbols", { text: "500000 20 Lcom/Example;::run\n", file: "perf-1.map" });
     same("a map of a compiler", await folded(model), [":1;main 1", ":1;Lcom/Example_::run 1"].sort());
+}
+
+export async function nameByRecords() {
+    const program = { address: 0xffffffffc0000000n, length: 0x100, name: "bpf_prog_6deef7357e7b4530" };
+    const inside = kernel(-0x3fffff81n);
+    const at = [[2, kernel(-0x3fffff00n)], [3, inside], [6, inside], [9, kernel(-0x40000000n)], [12, inside]];
+    const model = await opened(fileOf([
+        ksymbol({ pid: 1, time: 5, ...program }),
+        ksymbol({ pid: 1, time: 8, ...program, length: 0x80, name: "bpf;new" }),
+        ksymbol({ pid: 1, time: 11, ...program, flags: 1 }),
+        ksymbol({ pid: 1, time: 1, ...program, length: 0, name: "nothing" }),
+        ...at.map(([time, it]) => sample({ pid: 1, time, ...it })),
+        sample({ pid: 1, time: 9, chain: [-512n, 0xffffffffc0000000n] }),
+    ]));
+    const places = [":1;0xffffffffc0000100_[k] 1", ":1;0xffffffffc000007f_[k] 2", ":1;[unknown] 1",
+        ":1;bpf_new_[k] 1", ":1;bpf_prog_6deef7357e7b4530_[k] 1"];
+    same("names by KSYMBOL", await folded(model), places.sort());
+    await model.call("symbols", { text: KALLSYMS, file: "kallsyms" });
+    same("beside those of kallsyms", await folded(model), [":1;[unknown] 1", ":1;bpf_new_[k] 1",
+        ":1;bpf_prog_6deef7357e7b4530_[k] 1", ":1;in_module_[k] 3"].sort());
 }

@@ -4,7 +4,8 @@
 //! about the machine and the command. `perf_data dump FILE` prints a line for each
 //! frame in the order of the file, with `--order time` by time: what the line of `perfrec` has, and
 //! after its number the offset of the frame in the file and its event. A FILE of `-` is standard
-//! input. The whole file is read into memory, and all of its text is made before any is written.
+//! input. The whole file is read into memory, and all of its text is made before any is written; of a
+//! large file a line on standard error says so, if that is a terminal.
 //!
 //! The exit status is 0 if every frame and feature could be read, 1 if one was refused, 2 if the file is none of
 //! `perf record` or damaged, and for other words, and 3 if reading, writing or an allocation failed.
@@ -16,7 +17,7 @@ use perf_data_text::run::{Show, run, status_after};
 use perf_file::OpenError;
 use perf_lines::outcome::Outcome;
 use std::alloc::{AllocError, Global};
-use std::io::Read;
+use std::io::{IsTerminal, Read};
 use std::process::ExitCode;
 use std::{env, fs, io};
 
@@ -113,6 +114,7 @@ fn print_file(rt: &HostRuntime, matches: &ArgMatches<'_>) -> io::Result<u8> {
         return Ok(2);
     };
     let bytes = bytes_of(rt, path)?;
+    note_progress(rt, path, bytes.len())?;
     let mut output = rt.stdout();
     let ended = run(rt.alloc(), &bytes, &mut output, shown(command, words));
     report(rt, path, &ended)?;
@@ -127,6 +129,18 @@ fn bytes_of(rt: &HostRuntime, path: &str) -> io::Result<Vec<u8>> {
     let mut bytes = Vec::new(rt.alloc());
     rt.stdin().read_to_end(&mut bytes)?;
     Ok(bytes)
+}
+
+// The size of a file whose text takes seconds to make.
+const LARGE: usize = 1 << 28;
+
+// Prints on standard error what a large file is waited for, if somebody looks.
+fn note_progress(rt: &HostRuntime, path: &str, len: usize) -> io::Result<()> {
+    if len < LARGE || !rt.stderr().is_terminal() {
+        return Ok(());
+    }
+    let megabytes = len >> 20;
+    eprintln!(rt; "perf_data: {path}: {megabytes} MiB are read, and their text is made")
 }
 
 // Prints on standard error why a run ended early.
