@@ -39,8 +39,9 @@ RETURNS = {
 FACES = ("perf_event_data", "perf_event_c", "perf_file", "perf_history", "perf_flame")
 OTHERS = {
     "Examples and measurements": ["perf_uses", "perf_bench", "perf_file_bench"],
-    "Tests": ["perf_value_tests", "perf_program_tests", "perf_unit_tests", "perf_file_tests", "perf_history_tests", "perf_flame_tests",
+    "Tests": ["perf_program_tests", "perf_unit_tests", "perf_file_tests", "perf_history_tests", "perf_flame_tests",
               "perf_out_of_memory", "perf_replay"],
+    "Tests without a parser": ["perf_buffer_tests", "perf_value_tests"],
     "What tests share": ["perf_test_inputs", "perf_test_helpers"],
 }
 

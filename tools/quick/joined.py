@@ -77,9 +77,9 @@ class Room:
         lines = [f"{name}: {' '.join(uses)}\n" for name, uses in self.uses.items()]
         (self.folder / "crates.txt").write_text("".join(lines), encoding="utf-8")
 
-    def run(self, name, *words, optimised=False):
+    def run(self, name, *words):
         """Runs `rt try` in a crate, and returns its status, what it printed, and what it complained of."""
-        words = [sys.executable, str(ATTEMPT), *["--optimised"] * optimised, *LIMITS, *words]
+        words = [sys.executable, str(ATTEMPT), *LIMITS, *words]
         ran = subprocess.run(words, cwd=self.crate(name), stdin=subprocess.DEVNULL, capture_output=True)
         return ran.returncode, ran.stdout, ran.stderr.decode(errors="replace").strip()
 
@@ -130,14 +130,28 @@ class Room:
         main.unlink()
         return result
 
+    def set_constant(self, name, file, constant, value):
+        """Gives a constant of a crate another value."""
+        place = self.source(name) / file
+        text = place.read_text(encoding="utf-8")
+        text, found = re.subn(rf"^(const {constant}: \w+ = )[\w]+;$", rf"\g<1>{value};", text, flags=re.MULTILINE)
+        if found != 1:
+            raise ValueError(f"{file} of {name} has no constant {constant}")
+        place.write_text(text, encoding="utf-8")
+
     def join_tests(self, name, others):
-        """Adds the tests of other crates to those of one, each crate's in a module of its name."""
+        """Adds the tests of other crates to those of one, each crate's in a module of its name, with the modules beside them."""
         root = self.source(name) / "lib.rt"
         for other in others:
             (self.source(name) / other).mkdir()
             for file in [self.source(other) / "tests.rt", *self.source(other).glob("tests/*.rt")]:
                 place = self.source(name) / file.relative_to(self.source(other)).as_posix().replace("tests", other, 1)
                 place.write_text(re.sub(r"\bcrate::tests::", f"crate::{other}::", file.read_text(encoding="utf-8")), encoding="utf-8")
+            beside = [it for it in self.source(other).glob("*.rt") if it.name not in ("lib.rt", "tests.rt")]
+            for file in beside:
+                shutil.copy(file, self.source(name) / other)
+            with open(self.source(name) / f"{other}.rt", "a", encoding="utf-8") as it:
+                it.writelines(f"mod {file.stem};\n" for file in beside)
             with open(root, "a", encoding="utf-8") as it:
                 it.write(f"#[cfg(test)]\nmod {other};\n")
             self.uses[name] = list(dict.fromkeys(self.uses[name] + self.uses[other]))

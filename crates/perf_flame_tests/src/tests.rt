@@ -6,6 +6,9 @@ use perf_flame::folded::Folded;
 use perf_flame::laws::{apart_law, escaped_law, inside_law, merging_law, sums_law, total_law};
 use perf_flame::reading::read_lines;
 use perf_flame::stack::Stack;
+use std::alloc::{AllocError, Global};
+use std::fmt::Debug;
+use std::process::Abort;
 use std::test::Fail;
 
 // Six lines of four stacks: a command `sh` alone and in two functions, one like it, and one whose name
@@ -58,95 +61,129 @@ const BAD: [(&[u8], usize); 6] = [
     (b"sh 18446744073709551615\nsh x1", 2),
 ];
 
-fn folded(rt: &HostRuntime, text: &[u8]) -> Result<Folded, FoldedError> {
-    let mut folded = Folded::new(rt.alloc());
-    read_lines(&mut folded, text)?;
-    Ok(folded)
+// Asserts that a value is the expected one. An assertion that is written out is proved anew.
+fn check_same<T: PartialEq + Debug + Drop>(rt: &impl Abort, value: T, want: T) {
+    assert_eq!(rt; value, want);
 }
 
-fn drawn(rt: &HostRuntime, text: &[u8], inverted: bool) -> Result<Vec<u8>, Fail> {
-    let sums = folded(rt, text)?;
-    Ok(flame(rt.alloc(), &sums, inverted)?)
+// Asserts that bytes are the expected ones, and drops them.
+fn check_bytes(rt: &impl Abort, bytes: Vec<u8>, want: &[u8]) {
+    assert_eq!(rt; bytes.as_slice(), want);
+}
+
+fn folded(alloc: Global, text: &[u8]) -> Result<Folded, FoldedError> {
+    let mut sums = Folded::new(alloc);
+    match read_lines(&mut sums, text) {
+        Ok(()) => Ok(sums),
+        Err(error) => {
+            drop(sums);
+            Err(error)
+        }
+    }
+}
+
+// Why lines are refused, or `None` if they are not.
+fn fault_of(alloc: Global, text: &[u8]) -> Option<FoldedError> {
+    match folded(alloc, text) {
+        Ok(sums) => {
+            drop(sums);
+            None
+        }
+        Err(error) => Some(error),
+    }
+}
+
+fn drawn(alloc: Global, text: &[u8], inverted: bool) -> Result<Vec<u8>, Fail> {
+    let sums = folded(alloc, text)?;
+    let graph = flame(alloc, &sums, inverted);
+    drop(sums);
+    Ok(graph?)
+}
+
+// Asserts the text and the total of sums.
+fn check_sums(rt: &impl Abort, sums: &Folded, text: &[u8], total: Option<u64>) -> Result<(), Fail> {
+    check_bytes(rt, sums.text()?, text);
+    check_same(rt, sums.total(), total);
+    Ok(())
 }
 
 #[test]
 fn lines_are_summed(rt: HostRuntime) -> Result<(), Fail> {
-    let sums = folded(&rt, LINES)?;
-    let text = sums.text()?;
-    assert_eq!(rt; text.as_slice(), SUMS);
-    assert_eq!(rt; sums.total(), Some(20));
-    Ok(())
+    let sums = folded(rt.alloc(), LINES)?;
+    let is_checked = check_sums(&rt, &sums, SUMS, Some(20));
+    drop(sums);
+    is_checked
 }
+
+// Three lines whose counts wrap for one stack, and together.
+const WRAPPING: &[u8] = b"sh 18446744073709551615\nsh 3\nls 18446744073709551615\n";
 
 #[test]
 fn counts_wrap(rt: HostRuntime) -> Result<(), Fail> {
-    let sums = folded(
-        &rt,
-        b"sh 18446744073709551615\nsh 3\nls 18446744073709551615\n",
-    )?;
-    let text = sums.text()?;
-    assert_eq!(rt;
-        text.as_slice(),
-        b"ls 18446744073709551615\nsh 2\n".as_slice()
-    );
-    assert_eq!(rt; sums.total(), None);
-    assert_eq!(rt;
-        flame(rt.alloc(), &sums, false).err(),
-        Some(FlameError::TooMany)
-    );
-    Ok(())
+    let sums = folded(rt.alloc(), WRAPPING)?;
+    let want = b"ls 18446744073709551615\nsh 2\n".as_slice();
+    let is_checked = check_sums(&rt, &sums, want, None);
+    let graph = flame(rt.alloc(), &sums, false);
+    drop(sums);
+    check_same(&rt, graph.err(), Some(FlameError::TooMany));
+    is_checked
 }
 
 #[test]
-fn bad_lines_are_named(rt: HostRuntime) -> Result<(), Fail> {
+fn bad_lines_are_named(rt: HostRuntime) {
     for (text, line) in BAD {
-        assert_eq!(rt; folded(&rt, text).err(), Some(FoldedError::BadLine(line)));
+        let fault = fault_of(rt.alloc(), text);
+        check_same(&rt, fault, Some(FoldedError::BadLine(line)));
     }
-    Ok(())
 }
 
 #[test]
 fn lines_before_a_bad_one_are_added(rt: HostRuntime) -> Result<(), Fail> {
     let mut sums = Folded::new(rt.alloc());
-    assert_eq!(rt;
-        read_lines(&mut sums, b"sh 1\nsh\nsh 4\n").err(),
-        Some(FoldedError::BadLine(2))
-    );
-    let text = sums.text()?;
-    assert_eq!(rt; text.as_slice(), b"sh 1\n".as_slice());
+    let fault = read_lines(&mut sums, b"sh 1\nsh\nsh 4\n").err();
+    let text = sums.text();
+    drop(sums);
+    check_same(&rt, fault, Some(FoldedError::BadLine(2)));
+    check_bytes(&rt, text?, b"sh 1\n".as_slice());
     Ok(())
+}
+
+// A command that replaces an earlier one, and three functions.
+fn cleaned(stack: &mut Stack) -> Result<(), AllocError> {
+    stack.start(b"a command")?;
+    stack.start(b"s;h\x01")?;
+    stack.push_frame(b"operator new(int)")?;
+    stack.push_frame(b"")?;
+    stack.push_frame(b"\x7f\xc3\xa9\n")
 }
 
 #[test]
 fn stacks_are_cleaned(rt: HostRuntime) -> Result<(), Fail> {
     let mut stack = Stack::new(rt.alloc());
-    stack.start(b"a command")?;
-    stack.start(b"s;h\x01")?;
-    stack.push_frame(b"operator new(int)")?;
-    stack.push_frame(b"")?;
-    stack.push_frame(b"\x7f\xc3\xa9\n")?;
-    assert_eq!(rt;
-        stack.text(),
-        b"s_h_;operator new(int);;_\xc3\xa9_".as_slice()
-    );
+    cleaned(&mut stack)?;
+    let want = b"s_h_;operator new(int);;_\xc3\xa9_".as_slice();
+    check_same(&rt, stack.text(), want);
     Ok(())
 }
 
 #[test]
 fn stacks_are_drawn(rt: HostRuntime) -> Result<(), Fail> {
-    let text = drawn(&rt, LINES, false)?;
-    assert_eq!(rt; text.as_slice(), GRAPH);
-    let text = drawn(&rt, b"sh;read 1", true)?;
-    assert_eq!(rt; text.as_slice(), INVERTED);
+    check_bytes(&rt, drawn(rt.alloc(), LINES, false)?, GRAPH);
+    check_bytes(&rt, drawn(rt.alloc(), b"sh;read 1", true)?, INVERTED);
     Ok(())
 }
 
 #[test]
 fn narrow_boxes_are_left_out(rt: HostRuntime) -> Result<(), Fail> {
-    let text = drawn(&rt, b"sh 11999\n\xe9 1\n", false)?;
-    assert_eq!(rt; text.as_slice(), NARROW);
-    let text = drawn(&rt, b"sh 12000\n\xe9 1\n", false)?;
-    assert_eq!(rt; text.iter().filter(|byte| **byte == b'\n').count(), 4);
+    check_bytes(
+        &rt,
+        drawn(rt.alloc(), b"sh 11999\n\xe9 1\n", false)?,
+        NARROW,
+    );
+    let text = drawn(rt.alloc(), b"sh 12000\n\xe9 1\n", false)?;
+    let count = text.iter().filter(|byte| **byte == b'\n').count();
+    drop(text);
+    check_same(&rt, count, 4);
     Ok(())
 }
 

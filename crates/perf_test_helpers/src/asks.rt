@@ -1,9 +1,9 @@
 //! What a parser is asked for, one thing after another, and the results as text.
 
-use crate::everywhere::{Asked, Request, text_everywhere};
+use crate::everywhere::{Buffer, Question, parser_of, text_everywhere};
+use crate::over_buffer;
 use crate::texts::{
-    Found, FrameLine, FromBothEnds, OfGroup, WriteText, write_answer, write_config, write_last,
-    write_semicolon,
+    Found, FrameLine, FromBothEnds, OfGroup, WriteText, write_answer, write_last, write_semicolon,
 };
 use perf_event_data::endian::Endian;
 use perf_event_data::parse::{
@@ -11,12 +11,14 @@ use perf_event_data::parse::{
 };
 use perf_event_data::sys::{perf_event_attr, perf_event_header};
 use perf_event_data::{
-    BranchEntry, Comm, CowSlice, DataSource, Exit, Lost, LostSamples, Mmap, Read, ReadGroup,
-    ReadValue, Record, RecordMetadata, Registers, Sample, SampleId, SampleRegsAbi, SwitchCpuWide,
-    Throttle, Txn,
+    BranchEntry, Comm, CowSlice, DataSource, Exit, Lost, LostSamples, Mmap, PieceBuf, Read,
+    ReadGroup, ReadValue, Record, RecordMetadata, Registers, Sample, SampleId, SampleRegsAbi,
+    SwitchCpuWide, Throttle, Txn,
 };
+use perf_test_inputs::configurations::write_config;
 use std::alloc::{AllocError, Global};
 use std::fmt::Debug;
+use std::io::BufReader;
 
 // A value, or its error.
 fn write_debug<T: Debug + Drop>(
@@ -425,16 +427,31 @@ fn write_parts<'p, B: ParseBuf<'p>, E: Endian>(
     Ok(())
 }
 
-/// The results of a parser.
-pub fn text_of_answers<'p, B: ParseBuf<'p> + Drop, E: Endian>(
-    alloc: Global,
-    parser: Parser<B, E>,
-    parts: &str,
-) -> Result<String, AllocError> {
-    let mut parser = parser;
-    let mut text = String::new(alloc);
-    write_parts(&mut text, &mut parser, parts)?;
-    Ok(text)
+// Calls and types, one after another.
+#[derive(Drop)]
+struct Calls<'a, E> {
+    endian: E,
+    attr: &'a perf_event_attr,
+    parts: &'a str,
+}
+
+impl<E: Endian + Copy> Calls<'_, E> {
+    fn text_of<'p, B: ParseBuf<'p> + Drop>(
+        &self,
+        alloc: Global,
+        buf: B,
+    ) -> Result<String, AllocError> {
+        let mut parser = parser_of(alloc, buf, self.endian, self.attr);
+        let mut text = String::new(alloc);
+        write_parts(&mut text, &mut parser, self.parts)?;
+        Ok(text)
+    }
+}
+
+impl<E: Endian + Copy> Question for Calls<'_, E> {
+    fn text_over(&self, alloc: Global, bytes: &[u8], buffer: Buffer) -> Result<String, AllocError> {
+        over_buffer!(self, alloc, bytes, buffer)
+    }
 }
 
 /// What parsers over these bytes return under an attribute, over a slice, buffered readers and
@@ -447,10 +464,10 @@ pub fn text_of_calls<E: Endian + Copy>(
     attr: &perf_event_attr,
     parts: &str,
 ) -> Result<String, AllocError> {
-    let asked = Asked {
+    let calls = Calls {
         endian,
         attr,
-        request: Request::Calls(parts),
+        parts,
     };
-    text_everywhere(alloc, bytes, &asked)
+    text_everywhere(alloc, bytes, &calls)
 }

@@ -3,18 +3,19 @@
 ghost use Rattle.std.specs.Prelude.{⊤};
 
 use crate::asks::{next_attribute, next_record};
-use crate::everywhere::{
-    Asked, Buffer, Request, add_other, parser_of, text_everywhere, text_over_bytes,
-};
-use crate::texts::{FrameLine, WriteText, write_config, write_error, write_frame, write_last};
+use crate::everywhere::{Buffer, Question, add_other, parser_of, text_everywhere};
+use crate::over_buffer;
+use crate::texts::{FrameLine, WriteText, write_error, write_frame, write_last};
 use perf_event_data::endian::{Endian, Little, Native};
 use perf_event_data::parse::{ErrorKind, ParseBuf, ParseConfig, ParseError, ParseResult, Parser};
 use perf_event_data::sys::{perf_event_attr, perf_event_header};
 use perf_event_data::{
-    BadFrame, Frame as WholeFrame, FrameHandler, FrameRun, Record, Run, RunEnd, each_frame, frames,
-    read_records,
+    BadFrame, Frame as WholeFrame, FrameHandler, FrameRun, PieceBuf, Record, Run, RunEnd,
+    each_frame, frames, read_records,
 };
+use perf_test_inputs::configurations::write_config;
 use std::alloc::{AllocError, Global};
+use std::io::BufReader;
 
 // The header of a frame, and its result.
 type Frame<'a> = (perf_event_header, ParseResult<Record<'a>>);
@@ -105,76 +106,109 @@ pub fn text_of_runs_under<'p, B: ParseBuf<'p> + Drop, E: Endian>(
     attr: &perf_event_attr,
     limits: &[usize],
 ) -> Result<String, AllocError> {
-    text_of_parser(
-        alloc,
-        parser_of(alloc, buf, endian, attr),
-        Way::Records,
-        limits,
-    )
-}
-
-/// What makes a run.
-#[derive(Copy, Clone)]
-pub enum Way {
-    /// The run that lists records.
-    Records,
-    /// The run that hands out frames.
-    Frames,
-}
-
-impl Way {
-    fn run<'p, B: ParseBuf<'p>, E: Endian>(
-        self,
-        alloc: Global,
-        parser: &mut Parser<B, E>,
-        limit: usize,
-    ) -> Run<'p> {
-        match self {
-            Way::Records => read_records(parser, limit),
-            Way::Frames => run_by_frames(alloc, parser, limit),
-        }
-    }
-}
-
-/// The runs of a parser with these limits, in turn.
-pub fn text_of_parser<'p, B: ParseBuf<'p> + Drop, E: Endian>(
-    alloc: Global,
-    parser: Parser<B, E>,
-    way: Way,
-    limits: &[usize],
-) -> Result<String, AllocError> {
-    let mut parser = parser;
+    let mut parser = parser_of(alloc, buf, endian, attr);
     let mut text = String::new(alloc);
-    write_runs(&mut text, &mut parser, way, limits)?;
+    write_runs(&mut text, &mut parser, limits)?;
     Ok(text)
 }
 
-// Appends the runs of a parser with these limits, in turn.
+// Appends what separates the next run from those before.
+fn write_separator(text: &mut String) -> Result<(), AllocError> {
+    if text.is_empty() {
+        Ok(())
+    } else {
+        text.push_str(" | ")
+    }
+}
+
+// Appends the runs of a parser that list records, with these limits, in turn.
 fn write_runs<'p, B: ParseBuf<'p>, E: Endian>(
     text: &mut String,
     parser: &mut Parser<B, E>,
-    way: Way,
     limits: &[usize],
 ) -> Result<(), AllocError> {
-    let alloc = *text.allocator();
     for limit in limits {
-        if !text.is_empty() {
-            text.push_str(" | ")?;
-        }
-        write_last(text, way.run(alloc, parser, *limit))?;
+        write_separator(text)?;
+        write_last(text, read_records(parser, *limit))?;
     }
     Ok(())
 }
 
-/// What comes after the attribute at the start of a parser's bytes; or its error.
-pub fn text_after<'p, B: ParseBuf<'p> + Drop, E: Endian + Copy>(
-    alloc: Global,
-    mut parser: Parser<B, E>,
+// Appends the runs of a parser that hand out frames.
+fn write_frame_runs<'p, B: ParseBuf<'p>, E: Endian>(
+    text: &mut String,
+    parser: &mut Parser<B, E>,
     limits: &[usize],
-) -> Result<String, AllocError> {
-    match next_attribute(&mut parser) {
-        Ok(attr) => text_under_own(alloc, parser, attr, limits),
-        Err(error) => format!(in alloc; "{error}"),
+) -> Result<(), AllocError> {
+    let alloc = *text.allocator();
+    for limit in limits {
+        write_separator(text)?;
+        write_last(text, run_by_frames(alloc, parser, *limit))?;
+    }
+    Ok(())
+}
+
+// What makes a run.
+#[derive(Copy, Clone)]
+enum Way {
+    // The run that lists records.
+    Records,
+    // The run that hands out frames.
+    Frames,
+}
+
+// Runs of a kind with these limits.
+#[derive(Drop)]
+struct Runs<'a, E> {
+    endian: E,
+    attr: &'a perf_event_attr,
+    way: Way,
+    limits: &'a [usize],
+}
+
+impl<E: Endian + Copy> Runs<'_, E> {
+    fn text_of<'p, B: ParseBuf<'p> + Drop>(
+        &self,
+        alloc: Global,
+        buf: B,
+    ) -> Result<String, AllocError> {
+        let mut parser = parser_of(alloc, buf, self.endian, self.attr);
+        let mut text = String::new(alloc);
+        match self.way {
+            Way::Records => write_runs(&mut text, &mut parser, self.limits)?,
+            Way::Frames => write_frame_runs(&mut text, &mut parser, self.limits)?,
+        }
+        Ok(text)
+    }
+}
+
+impl<E: Endian + Copy> Question for Runs<'_, E> {
+    fn text_over(&self, alloc: Global, bytes: &[u8], buffer: Buffer) -> Result<String, AllocError> {
+        over_buffer!(self, alloc, bytes, buffer)
+    }
+}
+
+// The attribute at the start, and the runs after it with these limits.
+#[derive(Copy, Clone)]
+struct AfterAttribute<'a>(&'a [usize]);
+
+impl AfterAttribute<'_> {
+    fn text_of<'p, B: ParseBuf<'p> + Drop>(
+        &self,
+        alloc: Global,
+        buf: B,
+    ) -> Result<String, AllocError> {
+        let mut parser = Parser::new(alloc, buf, ParseConfig::<Little>::default());
+        match next_attribute(&mut parser) {
+            Ok(attr) => text_under_own(alloc, parser, attr, self.0),
+            Err(error) => format!(in alloc; "{error}"),
+        }
+    }
+}
+
+impl Question for AfterAttribute<'_> {
+    fn text_over(&self, alloc: Global, bytes: &[u8], buffer: Buffer) -> Result<String, AllocError> {
+        over_buffer!(self, alloc, bytes, buffer)
     }
 }
 
@@ -189,7 +223,7 @@ fn text_under_own<'p, B: ParseBuf<'p> + Drop, E: Endian + Copy>(
     let config = ParseConfig::<Native>::from(attr).with_endian(*parser.endian());
     write_config(&mut text, &config)?;
     let mut parser = parser.reconfigure(config);
-    write_runs(&mut text, &mut parser, Way::Records, limits)?;
+    write_runs(&mut text, &mut parser, limits)?;
     Ok(text)
 }
 
@@ -200,12 +234,7 @@ pub fn text_after_attribute(
     bytes: &[u8],
     limits: &[usize],
 ) -> Result<String, AllocError> {
-    let asked = Asked {
-        endian: Little,
-        attr: &perf_event_attr::default(),
-        request: Request::AfterAttribute(limits),
-    };
-    text_everywhere(alloc, bytes, &asked)
+    text_everywhere(alloc, bytes, &AfterAttribute(limits))
 }
 
 // Lists the frames of a run, each with its record.
@@ -319,14 +348,15 @@ pub fn runs_everywhere<E: Endian + Copy>(
     attr: &perf_event_attr,
     limits: &[usize],
 ) -> Result<String, AllocError> {
-    let mut asked = Asked {
+    let mut runs = Runs {
         endian,
         attr,
-        request: Request::Runs(Way::Records, limits),
+        way: Way::Records,
+        limits,
     };
-    let mut text = text_everywhere(alloc, bytes, &asked)?;
-    asked.request = Request::Runs(Way::Frames, limits);
-    let by_frames = text_everywhere(alloc, bytes, &asked)?;
+    let mut text = text_everywhere(alloc, bytes, &runs)?;
+    runs.way = Way::Frames;
+    let by_frames = text_everywhere(alloc, bytes, &runs)?;
     if by_frames.as_str() != text.as_str() {
         write!(text, " but by frames {by_frames}")?;
     }
@@ -346,20 +376,21 @@ pub fn differences<E: Endian + Copy>(
     attr: &perf_event_attr,
     other: Buffer,
 ) -> Result<String, AllocError> {
-    let mut asked = Asked {
+    let mut runs = Runs {
         endian,
         attr,
-        request: Request::Runs(Way::Records, &[usize::MAX]),
+        way: Way::Records,
+        limits: &[usize::MAX],
     };
-    let mut text = text_over_bytes(alloc, bytes, &asked, Buffer::Slice)?;
+    let mut text = runs.text_over(alloc, bytes, Buffer::Slice)?;
     let mut others = String::new(alloc);
     for &(way, buffer) in &[
         (Way::Records, other),
         (Way::Frames, Buffer::Slice),
         (Way::Frames, other),
     ] {
-        asked.request = Request::Runs(way, &[usize::MAX]);
-        let actual = text_over_bytes(alloc, bytes, &asked, buffer)?;
+        runs.way = way;
+        let actual = runs.text_over(alloc, bytes, buffer)?;
         add_other(&mut others, actual.as_str(), text.as_str())?;
     }
     let of_slice = text_of_slice(alloc, bytes, endian, attr)?;

@@ -1,7 +1,6 @@
 //! Values as text.
 
-use bitflags::Flags;
-use perf_event_data::parse::{ParseConfig, ParseError, ParseResult};
+use perf_event_data::parse::{ParseError, ParseResult};
 use perf_event_data::sys::perf_event_header;
 use perf_event_data::{GroupIter, Namespaces, ReadGroup, ReadValue, Record, Registers, Sample};
 use perf_lines::line::line_of;
@@ -108,15 +107,6 @@ fn write_mask(
         Some(registers) => write!(text, "{before}{:#x}", registers.mask),
         None => Ok(()),
     }
-}
-
-/// Writes a configuration: the sample type and the read format, whether there are sample ids and
-/// the hardware's index, the masks of user registers and of those at an interrupt, and the misc.
-pub fn write_config<E>(text: &mut String, config: &ParseConfig<E>) -> Result<(), AllocError> {
-    let sets = [config.sample_type().bits(), config.read_format().bits()];
-    let are_there = [config.sample_id_all(), config.branch_hw_index()];
-    let masks = [config.regs_user(), config.regs_intr()];
-    write!(text, "{:?}", (sets, are_there, masks, config.misc()))
 }
 
 /// Writes a semicolon between two results.

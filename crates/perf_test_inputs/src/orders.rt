@@ -1,5 +1,7 @@
-//! A byte order that counts, and may refuse a second one.
+//! Byte orders: one that counts, and may refuse a second one, and one like no other.
 
+ghost use Rattle.std.specs.Prelude.{◌+◌, ◌%◌, ◌^◌, ◌++◌, take, drop, false};
+ghost use Rattle.std.specs.Int.{w16, w32, w64, from_le_bytes};
 ghost use Rattle.perf_base.specs.Order.{little};
 
 use perf_base::endian::Little;
@@ -56,5 +58,41 @@ impl Endian for Counting<'_> {
         } else {
             Ok(*self)
         }
+    }
+}
+
+/// Words of two bytes, the most significant word first, each in little endian. A number of one word is
+/// `added` more, modulo 2^16.
+#[derive(Copy, Clone)]
+pub struct Words {
+    pub added: u16,
+}
+
+impl Endian for Words {
+    ghost order = { λ o. record {
+      two = λ b. (from_le_bytes w16 b + o.added) % 2 ^ 16;
+      four = λ b. from_le_bytes w32 (drop 2 b ++ take 2 b);
+      eight = λ b. from_le_bytes w64
+          (drop 6 b ++ take 2 (drop 4 b) ++ take 2 (drop 2 b) ++ take 2 b);
+    } };
+
+    ghost may_refuse = { λ _. false };
+
+    fn convert_u16(&self, bytes: [u8; 2]) -> u16 {
+        u16::from_le_bytes(bytes).wrapping_add(self.added)
+    }
+
+    fn convert_u32(&self, bytes: [u8; 4]) -> u32 {
+        let [b0, b1, b2, b3] = bytes;
+        u32::from_le_bytes([b2, b3, b0, b1])
+    }
+
+    fn convert_u64(&self, bytes: [u8; 8]) -> u64 {
+        let [b0, b1, b2, b3, b4, b5, b6, b7] = bytes;
+        u64::from_le_bytes([b6, b7, b4, b5, b2, b3, b0, b1])
+    }
+
+    fn duplicate(&self) -> ParseResult<Self> {
+        Ok(*self)
     }
 }

@@ -6,6 +6,9 @@ use crate::tests::searching::{name_back, place_back};
 use perf_history::{Change, Comm, Fork, History, Identity, Map, Mode, Symbol};
 use std::alloc::{AllocError, Global};
 
+// How many histories there are.
+const HISTORIES: u64 = 1_000;
+
 // Numbers that look random, the same in each run.
 #[derive(Drop)]
 struct Numbers {
@@ -130,6 +133,6 @@ fn first_difference(alloc: Global, count: u64) -> Result<Option<u64>, AllocError
 
 #[test]
 fn histories_agree(rt: HostRuntime) -> Result<(), AllocError> {
-    assert_eq!(rt; first_difference(rt.alloc(), 1000)?, None);
+    assert_eq!(rt; first_difference(rt.alloc(), HISTORIES)?, None);
     Ok(())
 }

@@ -3,7 +3,6 @@
 ghost use Rattle.std.specs.Prelude.{true, false, None, []};
 
 use crate::tests::checks::check_text;
-use crate::tests::errors::text_of_error;
 use anyhow::anyhow;
 use bitflags::Flags;
 use perf_event_data::endian::Little;
@@ -11,6 +10,7 @@ use perf_event_data::parse::{ErrorKind, ParseBuf, ParseBufChunk, ParseError, Par
 use perf_event_data::{RunEnd, SampleFlags, read_records};
 use perf_test_helpers::attributes::attribute;
 use perf_test_helpers::everywhere::parser_of;
+use perf_test_inputs::errors::text_of_error;
 use std::alloc::{AllocError, Global};
 use std::io;
 use std::io::{BufReader, Read};

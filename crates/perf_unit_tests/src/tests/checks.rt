@@ -35,11 +35,6 @@ pub fn check_answer(rt: &impl Abort, what: &str, answer: ParseResult<String>, wa
     }
 }
 
-/// Asserts a text.
-pub fn check_parsed_text(rt: &impl Abort, actual: ParseResult<String>, want: &str) {
-    check_answer(rt, "the text", actual, want);
-}
-
 /// Asserts the `{:?}` of a value: all of its fields, and of each list whether it is borrowed.
 pub fn check_debug<T: Debug + Drop>(rt: &(impl AllocGlobal + Abort), value: T, want: &str) {
     check_text(rt, format!(in rt.alloc(); "{value:?}"), want);

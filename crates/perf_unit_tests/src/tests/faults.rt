@@ -9,7 +9,9 @@ use perf_event_data::endian::Little;
 use perf_event_data::parse::{
     ErrorKind, ParseBuf, ParseBufChunk, ParseConfig, ParseError, ParseResult, Parser,
 };
+use perf_test_helpers::asks::next_record;
 use perf_test_helpers::runs::text_of_runs;
+use std::alloc::Global;
 use std::io;
 use std::io::{BufReader, Read};
 use std::process::Abort;
@@ -116,6 +118,29 @@ fn a_fault_of_a_reader_has_it_as_its_cause(rt: HostRuntime) -> Result<(), Fail> 
     };
     let reader = BufReader::with_capacity(rt.alloc(), 7, reader)?;
     let fault = fault_of(rt.alloc(), reader);
+    check_same(&rt, "the fault", fault, Some((ErrorKind::External, true)));
+    Ok(())
+}
+
+// The kind of the error of the next record, and whether it has a cause.
+fn fault_of_record<'p, B: ParseBuf<'p> + Drop>(alloc: Global, buf: B) -> Option<(ErrorKind, bool)> {
+    let mut parser = Parser::new(alloc, buf, ParseConfig::<Little>::default());
+    match next_record(&mut parser) {
+        Ok(_) => None,
+        Err(error) => Some((error.kind(), error.cause().is_some())),
+    }
+}
+
+#[test]
+fn a_fault_of_a_record_has_its_cause(rt: HostRuntime) -> Result<(), Fail> {
+    let reader = Faulty {
+        bytes: &[],
+        before: Some(0),
+        kind: io::ErrorKind::UnexpectedEof,
+        once: false,
+    };
+    let reader = BufReader::with_capacity(rt.alloc(), 8, reader)?;
+    let fault = fault_of_record(rt.alloc(), reader);
     check_same(&rt, "the fault", fault, Some((ErrorKind::External, true)));
     Ok(())
 }

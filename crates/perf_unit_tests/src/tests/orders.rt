@@ -1,28 +1,21 @@
 //! Byte orders, and some of a user's own.
 
-ghost use Rattle.std.specs.Prelude.{◌++◌, take, drop, false};
-ghost use Rattle.std.specs.Int.{w16, w32, w64, from_le_bytes};
-
 use crate::tests::cases::{Case, Request, check_case, check_cases, kind_of};
-use crate::tests::checks::{check_answer, check_same};
-use perf_base::endian::{Big, Dynamic, Endian, Little, Native};
+use crate::tests::checks::check_answer;
+use perf_base::endian::{Dynamic, Endian, Little, Native};
 use perf_base::sys::perf_event_header;
-use perf_base::{ErrorKind, ParseConfig, ParseResult};
+use perf_base::{ParseConfig, ParseResult};
 use perf_event_data::parse::{Parse, ParseBuf, Parser};
 use perf_test_helpers::runs::text_of_runs;
-use perf_test_inputs::orders::Counting;
+use perf_test_inputs::orders::{Counting, Words};
 use std::alloc::Global;
 use std::cell::Cell;
-use std::process::Abort;
-use std::test::Fail;
 
 /// What is asked for in a byte order of a user's own.
 #[derive(Copy, Clone)]
 pub enum OrderRequest {
-    /// A run in eights.
-    Eights,
-    /// A run in words.
-    Words,
+    /// A run in words, of which one alone is this much more.
+    Words(u16),
     /// Two runs in an order that has no second.
     Single,
     /// A parser of a frame's body in that order.
@@ -30,69 +23,6 @@ pub enum OrderRequest {
     /// A run of one frame, and whether at least one and at most this many 64-bit numbers are
     /// converted.
     Count(u64),
-}
-
-// Every 16-bit number is 8. The others are in little endian.
-#[derive(Copy, Clone)]
-struct Eights;
-
-impl Endian for Eights {
-    ghost order = { λ _. record {
-      two = λ _. 8;
-      four = from_le_bytes w32;
-      eight = from_le_bytes w64;
-    } };
-
-    ghost may_refuse = { λ _. false };
-
-    fn convert_u16(&self, _bytes: [u8; 2]) -> u16 {
-        8
-    }
-
-    fn convert_u32(&self, bytes: [u8; 4]) -> u32 {
-        u32::from_le_bytes(bytes)
-    }
-
-    fn convert_u64(&self, bytes: [u8; 8]) -> u64 {
-        u64::from_le_bytes(bytes)
-    }
-
-    fn duplicate(&self) -> ParseResult<Self> {
-        Ok(*self)
-    }
-}
-
-// Words of two bytes, the most significant word first, each in little endian.
-#[derive(Copy, Clone)]
-struct Words;
-
-impl Endian for Words {
-    ghost order = { λ _. record {
-      two = from_le_bytes w16;
-      four = λ b. from_le_bytes w32 (drop 2 b ++ take 2 b);
-      eight = λ b. from_le_bytes w64
-          (drop 6 b ++ take 2 (drop 4 b) ++ take 2 (drop 2 b) ++ take 2 b);
-    } };
-
-    ghost may_refuse = { λ _. false };
-
-    fn convert_u16(&self, bytes: [u8; 2]) -> u16 {
-        u16::from_le_bytes(bytes)
-    }
-
-    fn convert_u32(&self, bytes: [u8; 4]) -> u32 {
-        let [b0, b1, b2, b3] = bytes;
-        u32::from_le_bytes([b2, b3, b0, b1])
-    }
-
-    fn convert_u64(&self, bytes: [u8; 8]) -> u64 {
-        let [b0, b1, b2, b3, b4, b5, b6, b7] = bytes;
-        u64::from_le_bytes([b6, b7, b4, b5, b2, b3, b0, b1])
-    }
-
-    fn duplicate(&self) -> ParseResult<Self> {
-        Ok(*self)
-    }
 }
 
 // The rest is a number.
@@ -149,8 +79,7 @@ pub fn text_by_order<'p, B: ParseBuf<'p> + Drop>(
     request: OrderRequest,
 ) -> ParseResult<String> {
     match request {
-        OrderRequest::Eights => Ok(text_of_runs(alloc, buf, Eights, &[10])?),
-        OrderRequest::Words => Ok(text_of_runs(alloc, buf, Words, &[10])?),
+        OrderRequest::Words(added) => Ok(text_of_runs(alloc, buf, Words { added }, &[10])?),
         OrderRequest::Single => text_of_single(alloc, buf),
         OrderRequest::Body => text_of_refused_body(alloc, buf),
         OrderRequest::Count(most) => text_of_count(alloc, buf, most),
@@ -159,14 +88,14 @@ pub fn text_by_order<'p, B: ParseBuf<'p> + Drop>(
 
 const CASES: [Case; 4] = [
     Case {
-        name: "an order of eights has frames of eight bytes",
-        request: Request::InOrder(OrderRequest::Eights),
+        name: "an order in which two zero bytes are eight has frames of eight bytes",
+        request: Request::InOrder(OrderRequest::Words(8)),
         bytes: &[0; 16],
         want: "0 0 8 8 Unknown data= ty=0; 1 0 8 8 Unknown data= ty=0; done",
     },
     Case {
         name: "an order of words reads its own bytes",
-        request: Request::InOrder(OrderRequest::Words),
+        request: Request::InOrder(OrderRequest::Words(0)),
         bytes: b"\0\0\x0D\0\0\0\x10\0\0\0\0\0\0\0\x05\0",
         want: "0 13 0 16 LostSamples lost=5; done",
     },
@@ -239,79 +168,6 @@ fn a_hostile_count_converts_only_what_is_there(rt: HostRuntime) {
 #[test]
 fn orders_of_ones_own_are_asked(rt: HostRuntime) {
     check_cases(&rt, &CASES);
-}
-
-#[test]
-fn a_refused_duplicate_refuses_the_configuration(rt: HostRuntime) {
-    let calls = Cell::new(0);
-    let config = ParseConfig::<Little>::default().with_endian(Counting::single(&calls));
-    let kind = kind_of(config.duplicate());
-    check_same(
-        &rt,
-        "a second configuration",
-        kind,
-        Some(ErrorKind::OutOfMemory),
-    );
-}
-
-// What a byte order makes of the bytes 1 to 8.
-fn conversions_of<E: Endian>(order: &E) -> (u16, u32, u64) {
-    (
-        order.convert_u16([1, 2]),
-        order.convert_u32([1, 2, 3, 4]),
-        order.convert_u64([1, 2, 3, 4, 5, 6, 7, 8]),
-    )
-}
-
-const LOWEST_FIRST: (u16, u32, u64) = (0x0201, 0x04030201, 0x0807060504030201);
-
-const HIGHEST_FIRST: (u16, u32, u64) = (0x0102, 0x01020304, 0x0102030405060708);
-
-#[test]
-fn orders_convert_as_they_are_named(rt: HostRuntime) {
-    let actual = [
-        conversions_of(&Little),
-        conversions_of(&Native),
-        conversions_of(&Dynamic::Little),
-        conversions_of(&Big),
-        conversions_of(&Dynamic::Big),
-        conversions_of(&Words),
-    ];
-    let want = [
-        LOWEST_FIRST,
-        LOWEST_FIRST,
-        LOWEST_FIRST,
-        HIGHEST_FIRST,
-        HIGHEST_FIRST,
-        (0x0201, 0x02010403, 0x0201040306050807),
-    ];
-    check_same(&rt, "the orders", actual, want);
-}
-
-#[test]
-fn the_little_orders_are_native(rt: HostRuntime) {
-    let calls = Cell::new(0);
-    let actual = [
-        Native.is_native(),
-        Little.is_native(),
-        Dynamic::Little.is_native(),
-        Big.is_native(),
-        Dynamic::Big.is_native(),
-        Eights.is_native(),
-        Words.is_native(),
-        Counting::single(&calls).is_native(),
-    ];
-    let want = [true, true, true, false, false, false, false, false];
-    check_same(&rt, "which are native", actual, want);
-}
-
-#[test]
-fn a_configuration_keeps_its_order(rt: HostRuntime) -> Result<(), Fail> {
-    let config = ParseConfig::<Native>::default().with_endian(Dynamic::Big);
-    let second = config.duplicate()?;
-    let orders = [*config.endian(), *second.endian()];
-    check_same(&rt, "the orders", orders, [Dynamic::Big, Dynamic::Big]);
-    Ok(())
 }
 
 // The byte order of a parser, that of its configuration, and the next header.

@@ -1,10 +1,11 @@
-//! Byte strings, lists and conditions.
+//! Byte strings, lists, conditions and configurations.
 
 use crate::check;
 use crate::tests::checks::check_text;
 use perf_event_data::endian::Little;
 use perf_event_data::parse::{ParseBuf, ParseConfig, ParseResult, Parser};
-use std::alloc::Global;
+use perf_test_inputs::configurations::{FULL, full, write_config};
+use std::alloc::{AllocError, Global};
 use std::io::BufReader;
 use std::test::Fail;
 
@@ -58,4 +59,19 @@ fn a_second_parser_of_a_slice_reads_on_alone(rt: HostRuntime) -> Result<(), Fail
     check!(rt; numbers, (1, 0x0302, 2));
     check!(rt; second.parse_rest()?.is_empty());
     Ok(())
+}
+
+fn text_of_config(alloc: Global, config: &ParseConfig<Little>) -> Result<String, AllocError> {
+    let mut text = String::new(alloc);
+    write_config(&mut text, config)?;
+    Ok(text)
+}
+
+#[test]
+fn a_parser_takes_another_configuration(rt: HostRuntime) {
+    let parser = Parser::new(rt.alloc(), [].as_slice(), full());
+    check_text(&rt, text_of_config(rt.alloc(), parser.config()), FULL);
+    let parser = parser.reconfigure(ParseConfig::<Little>::default());
+    let nothing = "([0, 0], [false, false], [0, 0], 0)";
+    check_text(&rt, text_of_config(rt.alloc(), parser.config()), nothing);
 }

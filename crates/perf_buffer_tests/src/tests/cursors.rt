@@ -1,10 +1,10 @@
 //! The bytes of one frame, and the buffers that they are cut from.
 
-use crate::check;
-use crate::tests::cases::kind_of;
-use crate::tests::checks::check_parsed_text;
-use perf_event_data::PieceBuf;
-use perf_event_data::parse::{ParseBuf, ParseBufCursor, ParseResult};
+use crate::tests::checks::{check_parsed_text, check_same};
+use perf_base::{ErrorKind, ParseResult};
+use perf_buffers::cursor::ParseBufCursor;
+use perf_buffers::parsebuf::ParseBuf;
+use perf_buffers::pieces::PieceBuf;
 use std::alloc::Global;
 use std::io::BufReader;
 use std::test::Fail;
@@ -31,6 +31,14 @@ fn write_both<'p, B: ParseBuf<'p>>(text: &mut String, buf: &mut B) -> ParseResul
     write_chunk(text, buf)?;
     skip_two(buf)?;
     write_chunk(text, buf)
+}
+
+// The kind of an error.
+fn kind_of<T: Drop>(answer: ParseResult<T>) -> Option<ErrorKind> {
+    match answer {
+        Ok(_) => None,
+        Err(error) => Some(error.kind()),
+    }
 }
 
 // Writes how many bytes a buffer reports, which it shows first, why there is no cursor over three
@@ -80,7 +88,7 @@ fn a_cursor_over_a_slice_borrows_it(rt: HostRuntime) -> Result<(), Fail> {
     check_parsed_text(&rt, text_of_cursor(rt.alloc(), BYTES), LENT);
     let mut bytes = BYTES;
     ParseBufCursor::new(rt.alloc(), &mut bytes, 3)?;
-    check!(rt; bytes, b"de".as_slice());
+    check_same(&rt, "the bytes", bytes, b"de".as_slice());
     Ok(())
 }
 

@@ -1,32 +1,13 @@
 //! What a configuration keeps if one part of it changes.
 
-use crate::check;
-use crate::tests::checks::check_text;
+use crate::tests::checks::{check_same, check_text};
 use bitflags::Flags;
-use perf_event_data::endian::{Dynamic, Little};
-use perf_event_data::parse::{ParseConfig, Parser};
-use perf_event_data::sys::perf_event_attr;
-use perf_test_helpers::texts::write_config;
+use perf_base::ParseConfig;
+use perf_base::endian::Dynamic;
+use perf_test_inputs::configurations::{full, write_config};
 use perf_words::{ReadFormat, SampleFlags};
 use std::alloc::{AllocError, Global};
 use std::process::Abort;
-
-fn full() -> ParseConfig<Little> {
-    ParseConfig::from(perf_event_attr {
-        read_format: 0x0D,
-        sample_type: 0x10007,
-        flags: 1 << 18,
-        branch_sample_type: 1 << 17,
-        sample_regs_user: 0x11,
-        sample_regs_intr: 0x22,
-        ..Default::default()
-    })
-}
-
-// Its text: the sample type and the read format, two bits, two masks and `misc`.
-const FULL: &str = "([65543, 13], [true, true], [17, 34], 0)";
-
-const NOTHING: &str = "([0, 0], [false, false], [0, 0], 0)";
 
 fn text_of<E>(alloc: Global, config: &ParseConfig<E>) -> Result<String, AllocError> {
     let mut text = String::new(alloc);
@@ -42,7 +23,7 @@ fn check_config<E>(rt: &(impl AllocGlobal + Abort), config: &ParseConfig<E>, wan
 fn another_order_keeps_all_flags_and_masks(rt: HostRuntime) {
     let config = full().with_misc(3).with_endian(Dynamic::Big);
     check_config(&rt, &config, "([65543, 13], [true, true], [17, 34], 3)");
-    check!(rt; *config.endian(), Dynamic::Big);
+    check_same(&rt, "the order", *config.endian(), Dynamic::Big);
 }
 
 const MISCS: [(u16, &str); 3] = [
@@ -84,12 +65,4 @@ fn another_part_keeps_the_rest(rt: HostRuntime) {
         let config = full().with_misc(7).with_read_format(read_format);
         check_config(&rt, &config, want);
     }
-}
-
-#[test]
-fn a_parser_takes_another_configuration(rt: HostRuntime) {
-    let parser = Parser::new(rt.alloc(), [].as_slice(), full());
-    check_config(&rt, parser.config(), FULL);
-    let parser = parser.reconfigure(ParseConfig::<Little>::default());
-    check_config(&rt, parser.config(), NOTHING);
 }

@@ -1,0 +1,7 @@
+//! The tests.
+
+mod checks;
+mod configurations;
+mod cursors;
+mod errors;
+mod orders;
