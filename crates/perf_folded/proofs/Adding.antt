@@ -46,7 +46,7 @@ pub refuses : (text : List ℕ) (old new : List Line) (o : Option ℕ) → readi
 unfolding refused_line
 refuses text old new o is = ap (λ (r : Outcome). r.1) (sym (reading_onto (text_lines text) old 1) ∙ is)
 
-add_append : (xs ys lines : List Line) → add_lines lines (xs ++ ys) ≡ add_lines (add_lines lines xs) ys
+pub add_append : (xs ys lines : List Line) → add_lines lines (xs ++ ys) ≡ add_lines (add_lines lines xs) ys
 add_append [] ys lines = refl
 add_append (x ∷ xs) ys lines = add_append xs ys (add_count lines x.stack x.count)
 
