@@ -122,12 +122,61 @@ damage $((table + 7)) '\1'
 check 1 "$work/output" events --header "$work/damaged"
 check 0 "$examples/events.events" events "$work/damaged"
 
+# Folded stacks, which perf has counted: parts of them in any order add up to all, as awk adds them.
+folded=$examples/events.folded
+head -n 20 "$folded" >"$work/first"
+tail -n +15 "$folded" >"$work/second"
+awk '{ count = $NF; sub(/ [0-9]+$/, ""); sums[$0] += count } END { for (it in sums) print it, sums[it] }' \
+    "$work/first" "$work/second" | LC_ALL=C sort >"$work/output"
+check 0 "$folded" fold --merge "$folded"
+check 0 "$work/output" fold --merge "$work/first" "$work/second"
+check 0 "$work/output" fold --merge "$work/second" "$work/first"
+input=$work/first
+check 0 "$work/output" fold --merge "$work/second" -
+input=/dev/null
+
+# Their flame graph, which an XML parser reads, also where names would open a tag: draws FOLDED
+draws() {
+    for way in '' --inverted; do
+        # shellcheck disable=SC2086  # it is a word or none
+        "${program[@]}" flame --folded $way "$1" >"$work/graph.svg" && "$examples/../tools/flame/boxes.py" $way "$1" "$work/graph.svg" >"$work/found.out" || {
+            failed=$((failed + 1))
+            echo "FAILED: the flame graph of $1"
+            head -n 3 "$work/found.out"
+        }
+        tried=$((tried + 1))
+    done
+}
+printf '<script>;]]>;&amp;" 7\na\001\033b;<![CDATA[ 3\n;; 1\n\303\274;x 18446744073709551000' >"$work/hostile"
+if command -v python3 >/dev/null; then
+    draws "$folded"
+    draws "$work/hostile"
+else
+    echo "skipped: flame graphs: no python3"
+fi
+
+# A line that is refused, and counts that have too large a sum.
+tells() {
+    check 2 /dev/null "${@:2}"
+    [ "$(cat "$work/found.err")" = "perf_data: $1" ] || {
+        failed=$((failed + 1))
+        echo "FAILED: another error:"
+        cat "$work/found.err"
+    }
+}
+printf 'sh 1\nsh one\n' >"$work/damaged"
+bad="$work/damaged: line 2 is no folded stack: each line is a stack, a space and a count below 2^64"
+tells "$bad" fold --merge "$folded" "$work/damaged" "$folded"
+tells "$bad" flame --folded "$work/damaged"
+printf 'a 18446744073709551615\nb 1' >"$work/damaged"
+tells "$work/damaged: the counts have a sum of 2^64 or more: leave lines out" flame --folded "$work/damaged"
+
 # Other words, and help.
-for words in '' events dump other 'events one two' 'dump one two' 'dump --order' 'dump --order size one' 'events --order time one' 'dump --header one' '--all' 'dump --all one'; do
+for words in '' events dump other 'events one two' 'dump one two' 'dump --order' 'dump --order size one' 'events --order time one' 'dump --header one' '--all' 'dump --all one' fold flame 'fold --merge' 'fold one two' 'flame --folded one two' 'flame --merge one'; do
     # shellcheck disable=SC2086  # these are several words
     check 2 /dev/null $words
 done
-for words in --help 'events --help' 'dump --help'; do
+for words in --help 'events --help' 'dump --help' 'fold --help' 'flame --help'; do
     # shellcheck disable=SC2086
     "${program[@]}" $words >"$work/found.out" 2>"$work/found.err" && [ -s "$work/found.out" ] && ! [ -s "$work/found.err" ] || {
         failed=$((failed + 1))

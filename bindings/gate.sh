@@ -131,6 +131,7 @@ else
     tail -n +2 "$work/log"
     exit 0
 fi
+face "names of functions in folded stacks" "awk sed" bindings/stacks_test.sh
 face "C and C++" "cc c++ make nm" bindings/test.sh "$archive" crates
 if [ -f "$second" ]; then
     face "C and C++, over the archive of the kit's second compiler" "cc c++ make nm" bindings/test.sh "$second" crates

@@ -67,4 +67,10 @@ for what in events dump time; do
 done
 rm mended.data
 awk -f "$here/count-samples.awk" events.time > events.samples
+fold() {
+    perf script --ns -F comm,pid,tid,time,period,event,ip,dso -i "$1.data" | awk -v files="$2" -f "$here/fold.awk" | LC_ALL=C sort
+}
+fold events '' > events.folded
+fold machine 1 > machine.files
+fold group 1 > group.files
 "$here/big-endian.py" events.data > big-endian.data

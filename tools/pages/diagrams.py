@@ -27,6 +27,8 @@ RETURNS = {
     "perf_event_c": "the calls for C, one archive",
     "perf_text": "text that is written backward",
     "perf_flame": "folded stacks, flame graphs",
+    "perf_stacks": "the names of their frames",
+    "perf_folded": "folded stacks as text",
     "perf_lines": "the text of a run",
     "perf_reports": "lines of tasks and samples, counts",
     "perf_data_text": "the text of a perf.data file",

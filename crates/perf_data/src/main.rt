@@ -3,7 +3,9 @@
 //! `perf_data events FILE` prints a line for each event, with `--header` after lines of what perf states
 //! about the machine and the command. `perf_data dump FILE` prints a line for each
 //! frame in the order of the file, with `--order time` by time: what the line of `perfrec` has, and
-//! after its number the offset of the frame in the file and its event. A FILE of `-` is standard
+//! after its number the offset of the frame in the file and its event. `perf_data fold --merge FILE ..`
+//! adds up folded stacks, and `perf_data flame --folded FILE` draws a flame graph of them, with
+//! `--inverted` from the innermost frames on. A FILE of `-` is standard
 //! input. The whole file is read into memory, and all of its text is made before any is written; of a
 //! large file a line on standard error says so, if that is a terminal.
 //!
@@ -11,6 +13,8 @@
 //! `perf record` or damaged, and for other words, and 3 if reading, writing or an allocation failed.
 //! With 2 and 3 the reason is printed on standard error. `--help` prints the words.
 #![tactic(auto)]
+
+mod folding;
 
 use clap::{Arg, ArgAction, ArgMatches, Command};
 use perf_data_text::run::{Show, run, status_after};
@@ -42,7 +46,7 @@ fn try_main(rt: &HostRuntime) -> io::Result<u8> {
     let words: Vec<String> = env::args(rt)?.collect(rt.alloc())?;
     let program = program(rt.alloc())?;
     match program.try_get_matches_from(words.as_slice()) {
-        Ok(matches) => print_file(rt, &matches),
+        Ok(matches) => run_command(rt, &matches),
         Err(error) => {
             error.print(rt)?;
             Ok(if error.use_stderr() { 2 } else { 0 })
@@ -76,14 +80,16 @@ fn program<'a>(alloc: Global) -> Result<Command<'a>, AllocError> {
         .subcommand_required(true)
         .disable_help_subcommand(true)
         .subcommand(events)?
-        .subcommand(dump)
+        .subcommand(dump)?
+        .subcommand(folding::fold_words(alloc)?)?
+        .subcommand(folding::flame_words(alloc)?)
 }
 
 // The word for the file.
-fn file_word<'a>(alloc: Global) -> Arg<'a> {
+pub(crate) fn file_word<'a>(alloc: Global) -> Arg<'a> {
     Arg::new(alloc, "FILE")
         .required(true)
-        .help("A file of `perf record`, or - for standard input")
+        .help("A file, or - for standard input")
 }
 
 // What is shown for a command and its words.
@@ -105,11 +111,22 @@ fn shown(command: &str, words: &ArgMatches<'_>) -> Show {
     }
 }
 
-// Prints the file that the words name, and returns the exit status.
-fn print_file(rt: &HostRuntime, matches: &ArgMatches<'_>) -> io::Result<u8> {
+// Runs the command that the words name, and returns the exit status.
+fn run_command(rt: &HostRuntime, matches: &ArgMatches<'_>) -> io::Result<u8> {
     let Some((command, words)) = matches.subcommand() else {
         return Ok(2);
     };
+    if command == "fold" {
+        folding::fold(rt, words)
+    } else if command == "flame" {
+        folding::flame(rt, words)
+    } else {
+        show_file(rt, command, words)
+    }
+}
+
+// Prints the file that the words name, and returns the exit status.
+fn show_file(rt: &HostRuntime, command: &str, words: &ArgMatches<'_>) -> io::Result<u8> {
     let Some(path) = words.get_str("FILE") else {
         return Ok(2);
     };
@@ -122,7 +139,7 @@ fn print_file(rt: &HostRuntime, matches: &ArgMatches<'_>) -> io::Result<u8> {
 }
 
 // The bytes of a file, or of standard input.
-fn bytes_of(rt: &HostRuntime, path: &str) -> io::Result<Vec<u8>> {
+pub(crate) fn bytes_of(rt: &HostRuntime, path: &str) -> io::Result<Vec<u8>> {
     if path != "-" {
         return fs::read(rt, path);
     }

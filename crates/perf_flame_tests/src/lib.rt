@@ -2,4 +2,6 @@
 #![tactic(auto)]
 
 #[cfg(test)]
+mod named;
+#[cfg(test)]
 mod tests;

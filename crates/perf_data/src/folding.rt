@@ -1,0 +1,96 @@
+//! The commands over folded stacks.
+
+use crate::{bytes_of, file_word};
+use clap::{Arg, ArgAction, ArgMatches, Command};
+use perf_folded::{Form, TextError, status_after, write_sum};
+use perf_lines::outcome::Outcome;
+use std::alloc::{AllocError, Global};
+use std::io;
+
+/// The words of `fold`.
+pub fn fold_words<'a>(alloc: Global) -> Result<Command<'a>, AllocError> {
+    let merge = Arg::new(alloc, "merge")
+        .long("merge")
+        .action(ArgAction::SetTrue)
+        .required(true)
+        .help("Adds up files of such lines");
+    Command::new(alloc, "fold")
+        .about("Prints a line for each stack: its frames from the outermost on, and its count")
+        .arg(merge)?
+        .arg(file_word(alloc).num_args(1..))
+}
+
+/// The words of `flame`.
+pub fn flame_words<'a>(alloc: Global) -> Result<Command<'a>, AllocError> {
+    let folded = Arg::new(alloc, "folded")
+        .long("folded")
+        .action(ArgAction::SetTrue)
+        .required(true)
+        .help("FILE has lines of stacks, as `fold` prints them");
+    let inverted = Arg::new(alloc, "inverted")
+        .long("inverted")
+        .action(ArgAction::SetTrue)
+        .help("Draws from the innermost frames on");
+    Command::new(alloc, "flame")
+        .about("Prints a flame graph, an SVG")
+        .arg(folded)?
+        .arg(inverted)?
+        .arg(file_word(alloc))
+}
+
+/// Prints the sums of the files that the words of `fold` name, and returns the exit status.
+pub fn fold(rt: &HostRuntime, words: &ArgMatches<'_>) -> io::Result<u8> {
+    print_sum(rt, words, Form::Lines)
+}
+
+/// Prints the flame graph of the file that the words of `flame` name, and returns the exit status.
+pub fn flame(rt: &HostRuntime, words: &ArgMatches<'_>) -> io::Result<u8> {
+    let form = if words.get_flag("inverted") {
+        Form::Inverted
+    } else {
+        Form::Flame
+    };
+    print_sum(rt, words, form)
+}
+
+// Prints the sums of files in a form.
+fn print_sum(rt: &HostRuntime, words: &ArgMatches<'_>, form: Form) -> io::Result<u8> {
+    let Some(paths) = words.get_strs("FILE") else {
+        return Ok(2);
+    };
+    let texts = texts_of(rt, paths)?;
+    let mut output = rt.stdout();
+    let ended = write_sum(rt.alloc(), &texts, form, &mut output);
+    report(rt, paths, &ended)?;
+    Ok(status_after(&ended))
+}
+
+// The bytes of files.
+fn texts_of(rt: &HostRuntime, paths: &[&str]) -> io::Result<Vec<Vec<u8>>> {
+    let mut texts = Vec::new(rt.alloc());
+    for path in paths {
+        texts.push(bytes_of(rt, path)?)?;
+    }
+    Ok(texts)
+}
+
+// Prints on standard error why nothing, or not all, was printed.
+fn report(rt: &HostRuntime, paths: &[&str], ended: &Result<Outcome, TextError>) -> io::Result<()> {
+    match ended {
+        Err(error) => eprintln!(rt; "perf_data: {}: {error}", path_of(paths, error)),
+        Ok(Outcome::Stopped) => eprintln!(rt; "perf_data: the output cannot be written"),
+        Ok(_) => Ok(()),
+    }
+}
+
+// The file that is refused: the first, if it is all of them.
+fn path_of<'a>(paths: &[&'a str], error: &TextError) -> &'a str {
+    let index = match error {
+        TextError::BadLine { text, line: _ } => *text,
+        _ => 0,
+    };
+    match paths.get(index) {
+        Some(path) => path,
+        None => "-",
+    }
+}

@@ -1,0 +1,5 @@
+pub mod Messages
+pub mod Sums
+pub mod Forms
+pub mod Laws
+pub mod Written
