@@ -1,10 +1,12 @@
 //! A file is opened.
 
-ghost use Rattle.std.specs.Prelude.{◌≡◌, ◌+◌, ◌<◌, ◌^◌, ℕ, List, IfOk, All, length, map};
+ghost use Rattle.std.specs.Prelude.{◌≡◌, ◌+◌, ◌<◌, ◌≤◌, ◌^◌, ℕ, List, Some, None, IfOk, All, length, map, slice_index_or};
 ghost use Rattle.std.specs.List.Sorted.{IsNonDecreasingBy};
 ghost use Rattle.perf_base.specs.Configured.{endian_of};
+ghost use Rattle.perf_file.specs.Forms as forms;
 ghost use Rattle.perf_file.specs.IdPlaces as places;
 ghost use Rattle.perf_file.specs.IdTables as tables;
+ghost use Rattle.perf_file.specs.NoteViews.{note_of};
 ghost use Rattle.perf_file.specs.Opened as opens;
 ghost use Rattle.perf_file.specs.declared.events.Event.{Event};
 ghost use Rattle.perf_file.specs.declared.ids.IdOfEvent.{IdOfEvent};
@@ -14,7 +16,9 @@ use crate::event_list::{checked_head, events_in, found_events};
 use crate::events::Event;
 use crate::id_place::IdPlace;
 use crate::ids::IdOfEvent;
+use crate::noting::{Note, notes_in};
 use crate::number::bytes_at;
+use crate::piped::{found_pipe_events, pipe_order};
 use crate::reading::first_place;
 use perf_base::endian::Dynamic;
 use std::alloc::Global;
@@ -30,6 +34,7 @@ pub struct Recording<'p> {
     pub(crate) events: Vec<Event<'p>>,
     pub(crate) ids: Vec<IdOfEvent>,
     pub(crate) place: Option<IdPlace>,
+    pub(crate) notes: Vec<Note<'p>>,
     ghost inside: { start + length frames.now < 2 ^ 64 },
     ghost rising: { IsNonDecreasingBy (λ (e : IdOfEvent). e.id) ids.items },
     ghost found: { (id : ℕ) → tables.event_of ids.items id ≡
@@ -37,45 +42,36 @@ pub struct Recording<'p> {
     ghost place_is: { place ≡
         places.first_place (opens.attributes_of (map opens.event_view events.items)) },
     ghost ordered: { All (λ (e : Event). endian_of e.config ≡ order) events.items },
+    ghost noted: { map note_of notes.items ≡ forms.notes_of bytes.now },
 }
 
 impl<'p> Recording<'p> {
-    ghost use Rattle.perf_file.specs.Features.{file_descriptions};
     ghost use Rattle.perf_file.specs.Names as names;
     ghost use Rattle.perf_file.specs.Opens.{Gives};
+    ghost use Rattle.perf_file.specs.Pipes.{pipe_order};
     ghost use Rattle.perf_file.specs.Views.{view};
     ghost use Rattle.perf_file.specs.declared.head.Head.{Head};
     ghost use Rattle.perf_file.specs.declared.section.Section.{Section};
 
-    /// Opens a file that is all in memory.
+    /// Opens a file that is all in memory, as `perf record` writes it into a file or to a pipe.
     ///
-    /// Memory is needed for the events and their ids alone. The names of all events are found in one
-    /// reading of their descriptions. The refusal is the first check that fails, in the order of
-    /// [`OpenError`].
-    #[tactic(auto, unfolding(crate::specs::Opened::opened))]
+    /// Memory is needed for the events and their ids, and in a pipe for the frames by which perf states
+    /// something. The names of all events are found in one reading of their descriptions. The refusal is
+    /// the first check that fails, in the order of [`OpenError`].
+    #[tactic(auto, unfolding(crate::specs::Forms::opened, crate::specs::Forms::event_name))]
     pub fn open(alloc: Global, bytes: &'p [u8]) -> Result<Recording<'p>, OpenError>
-        ensures exact { Gives view result (opens.opened bytes.now) }
-        ensures sound { IfOk result (λ _.
+        ensures exact { Gives view result (forms.opened bytes.now) }
+        ensures sound { pipe_order bytes.now ≡ None → IfOk result (λ _.
             (h : Head) × (ids : List Section) × opens.IsSound bytes.now h ids) }
         ensures bytes { IfOk result (λ r. r.bytes.now ≡ bytes.now) }
-        ensures named { IfOk result (λ r. All (λ (e : Event). names.name_view e.name ≡
-            names.name_of r.order (file_descriptions bytes.now) (opens.event_view e)) r.events.items) }
+        ensures named { IfOk result (λ r. (n : ℕ) (d : Event) → n < length r.events.items →
+            names.name_view (slice_index_or r.events.items n d).name ≡ forms.event_name bytes.now
+            (view r) n (opens.event_view (slice_index_or r.events.items n d))) }
     {
-        let head = checked_head(bytes)?;
-        let events = events_in(alloc, bytes, head)?;
-        let ids = found_events(alloc, &events)?;
-        let place = first_place(&events);
-        let start = head.frames.start as usize;
-        Ok(Recording {
-            bytes,
-            order: head.order,
-            is_closed: head.is_closed,
-            start,
-            frames: bytes_at(bytes, start, head.frames.size as usize),
-            events,
-            ids,
-            place,
-        })
+        match pipe_order(bytes) {
+            Some(order) => open_pipe(alloc, order, bytes),
+            None => open_file(alloc, bytes),
+        }
     }
 
     /// The order of its numbers: that of the machine on which it was recorded.
@@ -100,4 +96,72 @@ impl<'p> Recording<'p> {
     {
         &self.events
     }
+}
+
+ghost use Rattle.perf_file.specs.Features.{file_descriptions};
+ghost use Rattle.perf_file.specs.Names as names;
+ghost use Rattle.perf_file.specs.Opens.{Gives};
+ghost use Rattle.perf_file.specs.Pipes as pipes;
+ghost use Rattle.perf_file.specs.Views.{view};
+ghost use Rattle.perf_file.specs.declared.head.Head.{Head};
+ghost use Rattle.perf_file.specs.declared.section.Section.{Section};
+
+// Opens a file that is no pipe.
+fn open_file<'p>(alloc: Global, bytes: &'p [u8]) -> Result<Recording<'p>, OpenError>
+    requires { pipes.pipe_order bytes.now ≡ None }
+    ensures exact { Gives view result (opens.opened_file bytes.now) }
+    ensures sound { IfOk result (λ _.
+        (h : Head) × (ids : List Section) × opens.IsSound bytes.now h ids) }
+    ensures bytes { IfOk result (λ r. r.bytes.now ≡ bytes.now) }
+    ensures named { IfOk result (λ r. All (λ (e : Event). names.name_view e.name ≡
+        names.name_of r.order (file_descriptions bytes.now) (opens.event_view e)) r.events.items) }
+{
+    let head = checked_head(bytes)?;
+    let events = events_in(alloc, bytes, head)?;
+    let ids = found_events(alloc, &events)?;
+    let place = first_place(&events);
+    let start = head.frames.start as usize;
+    Ok(Recording {
+        bytes,
+        order: head.order,
+        is_closed: head.is_closed,
+        start,
+        frames: bytes_at(bytes, start, head.frames.size as usize),
+        events,
+        ids,
+        place,
+        notes: Vec::new(alloc),
+    })
+}
+
+// Opens a pipe in that order.
+fn open_pipe<'p>(
+    alloc: Global,
+    order: Dynamic,
+    bytes: &'p [u8],
+) -> Result<Recording<'p>, OpenError>
+    requires order { pipes.pipe_order bytes.now ≡ Some order }
+    requires long { 16 ≤ length bytes.now }
+    ensures exact { Gives view result (pipes.opened_pipe order bytes.now) }
+    ensures bytes { IfOk result (λ r. r.bytes.now ≡ bytes.now) }
+    ensures named { IfOk result (λ r. (n : ℕ) (d : Event) → n < length r.events.items →
+        names.name_view (slice_index_or r.events.items n d).name ≡ pipes.noted_name order
+        (forms.notes_of bytes.now) (opens.table_of (map opens.event_view r.events.items)) n
+        (opens.event_view (slice_index_or r.events.items n d))) }
+{
+    let frames = bytes.split_at(16).1;
+    let notes = notes_in(alloc, order, frames)?;
+    let (events, ids) = found_pipe_events(alloc, order, bytes, &notes)?;
+    let place = first_place(&events);
+    Ok(Recording {
+        bytes,
+        order,
+        is_closed: true,
+        start: 16,
+        frames,
+        events,
+        ids,
+        place,
+        notes,
+    })
 }
