@@ -5,7 +5,7 @@ use Rattle.perf_file.specs.NoteViews.{note_of}
 use Rattle.perf_file.specs.Opens.{◌>>=◌}
 use Rattle.perf_file.specs.Pipes.{FrameNote, each_of}
 use Rattle.perf_file.specs.declared.error.OpenError.{OpenError}
-use Rattle.perf_file.specs.declared.noting.Note.{Note}
+use Rattle.perf_file.specs.declared.note_frames.Note.{Note}
 use Rattle.perf_file.proofs.InTurn.{with_front, regroup}
 
 -- the note at an index is the first that is left

@@ -2,11 +2,14 @@
 use Rattle.std.specs.Prelude.{◌≢◌}
 use Rattle.std.proofs.Common.{◌≡◌, ℕ, suc, ◌+◌, ◌<◌, List, [], ◌∷◌, Bool, true, false, cond, length, map, drop, Option, Some, None, Result, Ok, Err, nat_eq, refl, sym, ap, ◌∙◌, arith}
 use Rattle.std.proofs.lemmas.Bool.{eqb-true, eq-eqb}
+use Rattle.std.proofs.lemmas.List.{length-map}
 use Rattle.perf_base.specs.Order.{Order}
 use Rattle.perf_file.specs.IdTables.{event_of, is_event}
 use Rattle.perf_file.specs.Names.{Name, described}
 use Rattle.perf_file.specs.Numbers.{number}
+use Rattle.perf_file.specs.Opened.{FileEvent, event_view}
 use Rattle.perf_file.specs.Pipes.{FrameNote, newer, named_by, named_event, new_name, last_name, has_name}
+use Rattle.perf_file.specs.declared.events.Event.{Event}
 use Rattle.perf_file.specs.declared.ids.IdOfEvent.{IdOfEvent}
 
 -- the newer of two names
@@ -47,3 +50,8 @@ same_names o t u k (x ∷ rest) same =
     let here : named_event o t x ≡ named_event o u x = ap (λ e. cond (has_name o x) e None) (same (number o x.body 8)) in
     ap (λ e. newer (last_name o t k rest) (cond (is_event e k) (Some (new_name x)) None)) here
     ∙ ap (λ r. newer r (cond (is_event (named_event o u x) k) (Some (new_name x)) None)) (same_names o t u k rest same)
+
+-- ---- events
+
+pub as_many : (xs ys : List Event) → map event_view xs ≡ map event_view ys → length xs ≡ length ys
+as_many xs ys same = sym (length-map xs event_view) ∙ ap (λ (es : List FileEvent). length es) same ∙ length-map ys event_view

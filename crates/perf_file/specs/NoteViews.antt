@@ -2,8 +2,8 @@
 use Rattle.std.specs.Prelude.{List, [], map}
 use Rattle.perf_file.specs.Pieces.{pieces}
 use Rattle.perf_file.specs.Pipes.{FrameNote, note_in, pipe_with}
-use Rattle.perf_file.specs.declared.noting.Note.{Note}
-use Rattle.perf_file.specs.declared.noting.NoteFrames.{NoteFrames}
+use Rattle.perf_file.specs.declared.note_frames.Note.{Note}
+use Rattle.perf_file.specs.declared.note_frames.NoteFrames.{NoteFrames}
 
 -- what a note contains
 abbrev pub note_of : Note → FrameNote

@@ -91,11 +91,14 @@ has_number o feature n =
     if nat_lt (length n.body) 8 then false
     else is_of 80 n && number o n.body 0 == feature
 
+-- its bytes then
+abbrev pub own_feature : Order → (feature : ℕ) → FrameNote → Option (List ℕ)
+own_feature o feature n = if has_number o feature n then Some (drop 8 n.body) else None
+
 -- the bytes of a feature: those of its last note
 abbrev pub noted_feature : Order → (feature : ℕ) → List FrameNote → Option (List ℕ)
 noted_feature o feature [] = None
-noted_feature o feature (n ∷ ns) =
-    newer (noted_feature o feature ns) (if has_number o feature n then Some (drop 8 n.body) else None)
+noted_feature o feature (n ∷ ns) = newer (noted_feature o feature ns) (own_feature o feature n)
 
 -- ---- events
 

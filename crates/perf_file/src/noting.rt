@@ -13,9 +13,9 @@ ghost use Rattle.perf_records.specs.Sights.{sight_of, sight_in};
 use crate::error::OpenError;
 use crate::finding::first_in;
 use crate::listing::header_of;
+use crate::note_frames::{Note, NoteFrames};
 use crate::number::{bytes_at, number_at};
 use perf_base::endian::Dynamic;
-use perf_base::sys::perf_event_header;
 use perf_records::frame::Frame;
 use perf_records::frame_handler::BadFrame;
 use std::alloc::{AllocError, Global};
@@ -25,26 +25,6 @@ pub const HEADER_ATTR: u32 = 64;
 pub const HEADER_BUILD_ID: u32 = 67;
 pub const EVENT_UPDATE: u32 = 78;
 pub const HEADER_FEATURE: u32 = 80;
-
-/// A frame of a pipe: its offset in the file, its header and the bytes after it, of which a header
-/// that no whole frame follows has none.
-#[derive(Copy, Clone, Debug)]
-pub struct Note<'p> {
-    pub at: usize,
-    pub header: perf_event_header,
-    pub body: &'p [u8],
-    ghost fits: { at + 8 + length body.now < 2 ^ 64 },
-}
-
-/// The frames of a pipe, each once, in order.
-#[derive(Drop)]
-pub struct NoteFrames<'p> {
-    pub order: Dynamic,
-    pub frames: &'p [u8],
-    pub left: &'p [u8],
-    ghost fits: { 16 + length frames.now < 2 ^ 64 },
-    ghost suffix: { length left.now ≤ length frames.now },
-}
 
 // The bytes after the header of the first frame of these, which was found.
 fn body_of<'p>(
@@ -170,17 +150,37 @@ fn has_number(order: Dynamic, note: &Note<'_>, feature: u64) -> bool
     note.header.type_ == HEADER_FEATURE && number_at(order, note.body, 0) == feature
 }
 
+// The bytes of the feature with a number, if a note is that.
+fn own_feature<'p>(order: Dynamic, note: &Note<'p>, feature: u64) -> Option<&'p [u8]>
+    ensures { option_map (λ b. b.now) result
+        ≡ pipes.own_feature (order_of order) feature (views.note_of note.now) }
+{
+    if has_number(order, note, feature) {
+        Some(note.body.split_at(8).1)
+    } else {
+        None
+    }
+}
+
+// The newer of two, if there is one.
+fn newer<'p>(new: Option<&'p [u8]>, older: Option<&'p [u8]>) -> Option<&'p [u8]>
+    ensures { option_map (λ b. b.now) result
+        ≡ pipes.newer (option_map (λ b. b.now) new) (option_map (λ b. b.now) older) }
+{
+    match new {
+        Some(bytes) => Some(bytes),
+        None => older,
+    }
+}
+
 /// The bytes of a feature: those of its last note.
-#[tactic(auto, using(crate::proofs::Noted::newer_older))]
 pub fn noted_feature<'p>(order: Dynamic, notes: &[Note<'p>], feature: u64) -> Option<&'p [u8]>
     ensures { option_map (λ b. b.now) result
         ≡ pipes.noted_feature (order_of order) feature (map views.note_of notes.now) }
 {
     let mut found = None;
-    for note in notes {
-        if has_number(order, note, feature) {
-            found = Some(note.body.split_at(8).1);
-        }
+    for index in 0..notes.len() {
+        found = newer(own_feature(order, &notes[index], feature), found);
     }
     found
 }

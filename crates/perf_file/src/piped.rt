@@ -1,6 +1,6 @@
 //! The events of a pipe.
 
-ghost use Rattle.std.specs.Prelude.{◌≡◌, ◌≢◌, ◌<◌, ◌≤◌, ℕ, true, false, Some, None, IfOk, IfSome, MatchOption, All, length, map, slice_index_or};
+ghost use Rattle.std.specs.Prelude.{◌≡◌, ◌≢◌, ◌<◌, ◌≤◌, ◌∷◌, ℕ, List, true, false, Some, None, IfOk, IfSome, MatchOption, All, length, map, slice_index_or};
 ghost use Rattle.std.specs.List.{filter};
 ghost use Rattle.std.specs.List.Sorted.{IsNonDecreasingBy};
 ghost use Rattle.perf_base.specs.Configured.{endian_of};
@@ -14,6 +14,7 @@ ghost use Rattle.perf_file.specs.Opened as opens;
 ghost use Rattle.perf_file.specs.Opens.{Gives};
 ghost use Rattle.perf_file.specs.Pieces as pieces;
 ghost use Rattle.perf_file.specs.Pipes as pipes;
+ghost use Rattle.perf_file.specs.Pipes.{FrameNote};
 ghost use Rattle.perf_file.specs.Sections.{IsInside};
 ghost use Rattle.perf_file.specs.declared.events.Event.{Event};
 ghost use Rattle.perf_file.specs.declared.ids.IdOfEvent.{IdOfEvent};
@@ -27,7 +28,8 @@ use crate::head::{PIPE_HEAD_SIZE, order_by};
 use crate::id_sections::checked_ids;
 use crate::ids::{IdOfEvent, event_of};
 use crate::listing::split_most;
-use crate::noting::{EVENT_UPDATE, HEADER_ATTR, Note, noted_feature, notes_of_type};
+use crate::note_frames::Note;
+use crate::noting::{EVENT_UPDATE, HEADER_ATTR, noted_feature, notes_of_type};
 use crate::number::{number_at, small_number_at};
 use crate::reading::events_with;
 use crate::section::Section;
@@ -229,6 +231,32 @@ fn rename_at<'p>(events: &mut [Event<'p>], index: usize, name: &'p [u8])
     events[index].rename(name);
 }
 
+// Gives the event that a note names, if there is one, its new name.
+fn rename_by<'p>(
+    order: Dynamic,
+    table: &[IdOfEvent],
+    note: &Note<'p>,
+    events: &mut [Event<'p>],
+)
+    requires { IsNonDecreasingBy (λ (e : IdOfEvent). e.id) table.now }
+    ensures same { map opens.event_view events.new ≡ map opens.event_view events.old }
+    ensures order { (o : Dynamic) → All (λ (e : Event). endian_of e.config ≡ o) events.old →
+        All (λ (e : Event). endian_of e.config ≡ o) events.new }
+    ensures named { (k : ℕ) (d : Event) (rest : List FrameNote) → k < length events.old →
+        pipes.named_by (pipes.last_name (order_of order) table.now k rest)
+        (names.name_view (slice_index_or events.new k d).name) ≡
+        pipes.named_by (pipes.last_name (order_of order) table.now k (views.note_of note.now ∷ rest))
+        (names.name_view (slice_index_or events.old k d).name) }
+{
+    let Some((event, name)) = named_event(order, table, note) else {
+        return;
+    };
+    if event >= events.len() {
+        return;
+    }
+    rename_at(events, event, name);
+}
+
 /// Gives events their new names, by their ids, which rise.
 pub(crate) fn rename_all<'p>(
     order: Dynamic,
@@ -245,12 +273,8 @@ pub(crate) fn rename_all<'p>(
         (pipes.last_name (order_of order) table.now k (map views.note_of notes.now))
         (names.name_view (slice_index_or events.old k d).name) }
 {
-    for note in notes {
-        if let Some((event, name)) = named_event(order, table, note) {
-            if event < events.len() {
-                rename_at(events, event, name);
-            }
-        }
+    for index in 0..notes.len() {
+        rename_by(order, table, &notes[index], events);
     }
 }
 

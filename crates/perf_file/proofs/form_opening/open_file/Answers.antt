@@ -4,7 +4,7 @@ use Rattle.perf_file.specs.Opened.{event_view, opened_file, checked_events, file
 use Rattle.perf_file.specs.Opens.{◌>>=◌, Fails}
 use Rattle.perf_file.specs.declared.events.Event.{Event}
 use Rattle.perf_file.proofs.Whole.{opened_after, fails_first, fails_by}
-use Rattle.perf_file.proofs.opening.open_file.Goals as goal
+use Rattle.perf_file.proofs.form_opening.open_file.Goals as goal
 
 pub returns-in_err-ids-clause-exact : goal.returns-in_err-ids-clause-exact
 returns-in_err-ids-clause-exact c =
