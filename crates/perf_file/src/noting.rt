@@ -22,16 +22,15 @@ use std::alloc::{AllocError, Global};
 
 /// The types of notes: an attribute, a build id, what is new of an event, and a feature.
 pub const HEADER_ATTR: u32 = 64;
+
 pub const HEADER_BUILD_ID: u32 = 67;
+
 pub const EVENT_UPDATE: u32 = 78;
+
 pub const HEADER_FEATURE: u32 = 80;
 
 // The bytes after the header of the first frame of these, which was found.
-fn body_of<'p>(
-    order: Dynamic,
-    bytes: &'p [u8],
-    found: &Result<Frame<'_, '_>, BadFrame>,
-) -> &'p [u8]
+fn body_of<'p>(order: Dynamic, bytes: &'p [u8], found: &Result<Frame<'_, '_>, BadFrame>) -> &'p [u8]
     requires long { 8 ≤ length bytes.now }
     requires first { sight_of found.now ≡ sight_in (order_of order) bytes.now true }
     ensures value { result.now ≡ pipes.body_seen (sight_of found.now) }

@@ -232,12 +232,7 @@ fn rename_at<'p>(events: &mut [Event<'p>], index: usize, name: &'p [u8])
 }
 
 // Gives the event that a note names, if there is one, its new name.
-fn rename_by<'p>(
-    order: Dynamic,
-    table: &[IdOfEvent],
-    note: &Note<'p>,
-    events: &mut [Event<'p>],
-)
+fn rename_by<'p>(order: Dynamic, table: &[IdOfEvent], note: &Note<'p>, events: &mut [Event<'p>])
     requires { IsNonDecreasingBy (λ (e : IdOfEvent). e.id) table.now }
     ensures same { map opens.event_view events.new ≡ map opens.event_view events.old }
     ensures order { (o : Dynamic) → All (λ (e : Event). endian_of e.config ≡ o) events.old →

@@ -198,7 +198,11 @@ fn opened(
 #[test]
 fn each_refusal_of_a_pipe(rt: HostRuntime) {
     for &(place, number, kept, want) in &REFUSED {
-        assert_eq!(rt; opened(&rt, place, number, kept), Some(want), "number {place}");
+        assert_eq!(rt;
+            opened(&rt, place, number, kept),
+            Some(want),
+            "number {place}"
+        );
     }
 }
 
