@@ -1,6 +1,7 @@
 -- Notes read one after another, as a loop does.
 use Rattle.std.proofs.Common.{◌≡◌, ℕ, zero, suc, ◌+◌, ◌≤◌, ◌<◌, List, [], ◌∷◌, ◌++◌, length, map, drop, get_or, Result, Ok, Err, refl, sym, ap, ◌∙◌, arith}
-use Rattle.std.proofs.lemmas.List.{append-nil}
+use Rattle.std.proofs.Math.ListN.{drop_of_length-le}
+use Rattle.std.proofs.lemmas.List.{append-nil, drop_more}
 use Rattle.perf_file.specs.NoteViews.{note_of}
 use Rattle.perf_file.specs.Opens.{◌>>=◌}
 use Rattle.perf_file.specs.Pipes.{FrameNote, each_of}
@@ -10,15 +11,12 @@ use Rattle.perf_file.proofs.InTurn.{with_front, regroup}
 
 -- the note at an index is the first that is left
 pub here : (list : List Note) (i : ℕ) (x : Note) → i < length list → x ≡ get_or list i x → map note_of (drop i list) ≡ note_of x ∷ map note_of (drop (i + 1) list)
-here [] i x lt is = absurd (omega (arith, lt))
-here (n ∷ ns) zero x lt is = ap (λ (y : Note). note_of y ∷ map note_of ns) (sym is)
-here (n ∷ ns) (suc i) x lt is = here ns i x (omega (arith, lt)) is
+here list i x lt is =
+    ap (λ (ns : List Note). map note_of ns) (drop_more list i x lt)
+    ∙ ap (λ (y : Note). note_of y ∷ map note_of (drop (i + 1) list)) (sym is)
 
 pub none_left : (list : List Note) (i : ℕ) → length list ≤ i → map note_of (drop i list) ≡ []
-none_left [] zero le = refl
-none_left [] (suc i) le = refl
-none_left (n ∷ ns) zero le = absurd (omega (arith, le))
-none_left (n ∷ ns) (suc i) le = none_left ns i (omega (arith, le))
+none_left list i le = ap (λ (ns : List Note). map note_of ns) (drop_of_length-le list le)
 
 pub goes_on : {A : Type 0} (item : ℕ → FrameNote → Result A OpenError) (front : List A) (list : List Note) (i : ℕ) (x : Note) (a : A) (total : Result (List A) OpenError) → i < length list
     → x ≡ get_or list i x → item i (note_of x) ≡ Ok a

@@ -162,13 +162,13 @@ fn own_feature<'p>(order: Dynamic, note: &Note<'p>, feature: u64) -> Option<&'p 
 }
 
 // The newer of two, if there is one.
-fn newer<'p>(new: Option<&'p [u8]>, older: Option<&'p [u8]>) -> Option<&'p [u8]>
+fn newer<'p>(first: Option<&'p [u8]>, other: Option<&'p [u8]>) -> Option<&'p [u8]>
     ensures { option_map (λ b. b.now) result
-        ≡ pipes.newer (option_map (λ b. b.now) new) (option_map (λ b. b.now) older) }
+        ≡ pipes.newer (option_map (λ b. b.now) first.entry) (option_map (λ b. b.now) other.entry) }
 {
-    match new {
+    match first {
         Some(bytes) => Some(bytes),
-        None => older,
+        None => other,
     }
 }
 
