@@ -17,7 +17,7 @@ loop-index-preserved c =
     let i = c.loop-index.index in
     let rest : List FrameNote = map note_of (drop (i + 1) c.args.notes.now) in
     let old = option_map (λ b. b.now) c.loop-index.found in
-    ap (λ x. newer (noted_feature o f rest) x) (c.newer.ensures ∙ ap (λ x. newer x old) c.own_feature.ensures)
+    ap (λ x. newer (noted_feature o f rest) x) (c.newer-found.ensures ∙ ap (λ x. newer x old) c.own_feature.ensures)
     ∙ sym (newer_older (noted_feature o f rest) (own_feature o f (note_of c.index-notes-index.result)) old)
     ∙ sym (ap (λ (ns : List FrameNote). newer (noted_feature o f ns) old) (here c.args.notes.now i c.index-notes-index.result c.loop-index-test.true c.index-notes-index.is))
     ∙ c.loop-index.invariant

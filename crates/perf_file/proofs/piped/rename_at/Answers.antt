@@ -1,4 +1,3 @@
-use Rattle.std.proofs.Common.{ap, ◌∙◌}
 use Rattle.std.proofs.Math.Seq.{map-set_same}
 use Rattle.perf_file.specs.Opened.{event_view}
 use Rattle.perf_file.proofs.piped.rename_at.Goals as goal
@@ -6,4 +5,4 @@ use Rattle.perf_file.proofs.piped.rename_at.Goals as goal
 pub returns-clause-same : goal.returns-clause-same
 returns-clause-same c =
     map-set_same event_view c.args.events.now c.args.index c.rename.new.self c.index-events-index.result
-    ((λ i. record { attribute = c.rename.ensures.attr i; ids = (c.rename.ensures.ids i).items }) ∙ ap event_view c.index-events-index.is)
+    (λ i. record { attribute = c.rename.ensures.attr i; ids = (c.rename.ensures.ids i).items })
