@@ -23,7 +23,7 @@ use perf_base::endian::Dynamic;
 use std::alloc::Global;
 
 /// Opens a file that is no pipe.
-#[tactic(auto, unfolding(crate::specs::Forms::notes_of))]
+#[tactic(auto, unfolding(crate::specs::Forms::notes_of, crate::specs::Opened::opened_file))]
 pub(crate) fn open_file<'p>(alloc: Global, bytes: &'p [u8]) -> Result<Recording<'p>, OpenError>
     requires { pipes.pipe_order bytes.now ≡ None }
     ensures exact { Gives view result (opens.opened_file bytes.now) }
@@ -52,7 +52,7 @@ pub(crate) fn open_file<'p>(alloc: Global, bytes: &'p [u8]) -> Result<Recording<
 }
 
 /// Opens a pipe in that order.
-#[tactic(auto, unfolding(crate::specs::Forms::notes_of))]
+#[tactic(auto, unfolding(crate::specs::Forms::notes_of, crate::specs::Pipes::opened_pipe))]
 pub(crate) fn open_pipe<'p>(
     alloc: Global,
     order: Dynamic,
