@@ -1,13 +1,13 @@
 -- Events that get new names.
 use Rattle.std.specs.Prelude.{◌≢◌}
-use Rattle.std.proofs.Common.{◌≡◌, ℕ, suc, ◌+◌, ◌<◌, List, [], ◌∷◌, Bool, true, false, cond, length, map, drop, Option, Some, None, Result, Ok, Err, nat_eq, refl, sym, ap, ◌∙◌, arith}
+use Rattle.std.proofs.Common.{◌≡◌, ℕ, suc, ◌+◌, ◌<◌, List, [], ◌∷◌, Bool, true, false, cond, length, map, drop, get_or, Option, Some, None, Result, Ok, Err, nat_eq, refl, sym, ap, ◌∙◌, arith}
 use Rattle.std.proofs.lemmas.Bool.{eqb-true, eq-eqb}
-use Rattle.std.proofs.lemmas.List.{length-map}
+use Rattle.std.proofs.lemmas.List.{length-map, get_or-map}
 use Rattle.perf_base.specs.Order.{Order}
 use Rattle.perf_file.specs.IdTables.{event_of, is_event}
-use Rattle.perf_file.specs.Names.{Name, described}
+use Rattle.perf_file.specs.Names.{Name, described, name_view}
 use Rattle.perf_file.specs.Numbers.{number}
-use Rattle.perf_file.specs.Opened.{FileEvent, event_view}
+use Rattle.perf_file.specs.Opened.{FileEvent, event_view, table_of}
 use Rattle.perf_file.specs.Pipes.{FrameNote, newer, named_by, named_event, new_name, last_name, has_name}
 use Rattle.perf_file.specs.declared.events.Event.{Event}
 use Rattle.perf_file.specs.declared.ids.IdOfEvent.{IdOfEvent}
@@ -55,3 +55,17 @@ same_names o t u k (x ∷ rest) same =
 
 pub as_many : (xs ys : List Event) → map event_view xs ≡ map event_view ys → length xs ≡ length ys
 as_many xs ys same = sym (length-map xs event_view) ∙ ap (λ (es : List FileEvent). length es) same ∙ length-map ys event_view
+
+-- events whose ids and attributes stay, and whose names are the new ones
+pub all_named : (o : Order) (notes : List FrameNote) (table : List IdOfEvent) (now old : List Event) (by : FileEvent → Name) (n : ℕ) (d : Event) → map event_view now ≡ map event_view old
+    → ((id : ℕ) → event_of table id ≡ event_of (table_of (map event_view old)) id) → n < length now → name_view (get_or old n d).name ≡ by (event_view (get_or old n d))
+    → name_view (get_or now n d).name ≡ named_by (last_name o table n notes) (name_view (get_or old n d).name)
+    → name_view (get_or now n d).name ≡ named_by (last_name o (table_of (map event_view now)) n notes) (by (event_view (get_or now n d)))
+all_named o notes table now old by n d same found lt named renamed =
+    let few : n < length old = omega (arith, lt, as_many now old same) in
+    let seen : event_view (get_or old n d) ≡ event_view (get_or now n d) =
+    sym (get_or-map event_view old n d (event_view d) few) ∙ ap (λ (es : List FileEvent). get_or es n (event_view d)) (sym same) ∙ get_or-map event_view now n d (event_view d) lt in
+    renamed
+    ∙ ap (λ m. named_by (last_name o table n notes) m) (named ∙ ap by seen)
+    ∙ ap (λ l. named_by l (by (event_view (get_or now n d)))) (same_names o table (table_of (map event_view old)) n notes found
+    ∙ ap (λ (es : List FileEvent). last_name o (table_of es) n notes) (sym same))
