@@ -71,6 +71,7 @@ shows() {
     check 0 "$examples/$1.time" dump --order time "$2"
 }
 shows events "$examples/big-endian.data"
+shows pipe "$examples/pipe.data"
 for name in machine group killed; do
     shows $name "$examples/$name.data"
     if command -v python3 >/dev/null; then
@@ -99,6 +100,8 @@ header() {
     check 0 "$work/output" events --header "$file_of_it"
 }
 header events "$file" events.data -e task-clock/period=2000000/ -e page-faults/period=7,call-graph=fp/ -e context-switches/period=1/ \
+    --namespaces -- sh -c 'ls / >/dev/null\x0a        date > /dev/null\x0a        sleep 0.01 & wait'
+header pipe "$examples/pipe.data" - -e task-clock/period=2000000/ -e page-faults/period=7,call-graph=fp/ -e context-switches/period=1/ \
     --namespaces -- sh -c 'ls / >/dev/null\x0a        date > /dev/null\x0a        sleep 0.01 & wait'
 header machine "$examples/machine.data" machine.data -a -e cpu-clock/freq=1000/ -- sh -c 'ls / > /dev/null\x0a        sleep 0.01'
 header group "$examples/group.data" group.data -e '{task-clock,page-faults}:S' -c 250000 -- ls -l /usr/bin
@@ -197,7 +200,8 @@ tried=$((tried + 1))
 
 # No file of perf record.
 refuses 'this is no perf.data file: pass a file that `perf record` has written' /dev/null
-refuses 'this is what `perf record -o -` writes: record into a file, with `perf record -o perf.data`' "$examples/pipe.data"
+head -c 16 "$examples/pipe.data" >"$work/damaged"
+refuses 'the file has no event, so it is damaged: copy it again, or record again' "$work/damaged"
 cp "$file" "$work/damaged"
 damage 75 '\10'
 refuses 'the frames are compressed: run `perf inject -i perf.data -o plain.data`, or record without `-z`' "$work/damaged"

@@ -70,11 +70,13 @@ def records(path):
     """The offset, the bytes and the printed lines of each record."""
     here = None
     for line in perf("report", "-D", "-i", path):
-        start = re.fullmatch(r"(0x[0-9a-f]+)@.* \[0x[0-9a-f]+\]: event: \d+", line)
+        start = re.fullmatch(r"(0x[0-9a-f]+|0)@(.*) \[0x[0-9a-f]+\]: event: \d+", line)
         if start:
             if here:
                 yield here
-            here = {"at": int(start[1], 16), "bytes": b"", "lines": []}
+            # in a pipe perf counts from the first frame, after the head of 16 bytes
+            head = 16 if start[2] == "pipe" else 0
+            here = {"at": head + int(start[1], 16), "bytes": b"", "lines": []}
         elif here and re.match(r"\.  [0-9a-f]{4}:  ", line):
             here["bytes"] += bytes.fromhex(line[10:58])
         elif here and line and not line.startswith("."):
@@ -175,7 +177,7 @@ def id_place(fields, name, size):
 def frame(record, list_of_events):
     """The time, the offset and the words of a record."""
     printed = next(line for line in record["lines"] if "PERF_RECORD_" in line)
-    form = r"(?:(\d+) )?(\d+) 0x[0-9a-f]+ \[0x[0-9a-f]+\]: PERF_RECORD_([A-Z0-9_]+)(.*)"
+    form = r"(?:(-?\d+) )?(-?\d+) (?:0x[0-9a-f]+|0) \[0x[0-9a-f]+\]: PERF_RECORD_([A-Z0-9_]+)(.*)"
     cpu, time, name, text = re.match(form, printed).groups()
     kind, misc, size = number_at(record, 0, 4), number_at(record, 4, 2), number_at(record, 6, 2)
     if kind >= 64:

@@ -57,7 +57,7 @@ data = bytearray(open('killed.data', 'rb').read())
 data[48:56] = (len(data) - int.from_bytes(data[40:48], 'little')).to_bytes(8, 'little')
 open('mended.data', 'wb').write(data)"
 
-for name in events machine group mended; do
+for name in events pipe machine group mended; do
     for what in events dump time; do
         "$here/perf-data-dump.py" $what $name.data > $name.$what
     done

@@ -1,13 +1,10 @@
 -- Lines of events one after another.
-use Rattle.std.proofs.Common.{◌≡◌, ℕ, ◌+◌, ◌<◌, List, [], ◌∷◌, ◌++◌, map, length, take, get_or, refl, sym, ap, ◌∙◌, add-zero, zero-add, append-nil, append_assoc, arith}
-use Rattle.std.specs.List.{All}
+use Rattle.std.proofs.Common.{◌≡◌, ℕ, suc, ◌+◌, ◌<◌, List, [], ◌∷◌, ◌++◌, map, length, take, get_or, refl, sym, ap, ◌∙◌, add-zero, zero-add, append-nil, append_assoc, arith}
 use Rattle.std.proofs.lemmas.List.{take_more, length-take-le}
-use Rattle.std.proofs.lemmas.List.Elements.{All-head, All-tail}
-use Rattle.perf_base.specs.declared.endian.Dynamic.{Dynamic}
-use Rattle.perf_file.specs.Names.{name_view, name_of, name_text}
-use Rattle.perf_file.specs.Opened.{event_view}
+use Rattle.perf_file.specs.Names.{Name, name_view, name_text}
+use Rattle.perf_file.specs.Opened.{FileEvent, event_view}
 use Rattle.perf_file.specs.declared.events.Event.{Event}
-use Rattle.perf_data_text.specs.EventText.{name_in, event_line, event_lines}
+use Rattle.perf_data_text.specs.EventText.{event_line, event_lines}
 use Rattle.perf_data_text.specs.OwnNames.{own_name, own_line, own_lines}
 
 own_append : (first : ℕ) (xs ys : List Event) → own_lines first (xs ++ ys) ≡ own_lines first xs ++ own_lines (first + length xs) ys
@@ -30,12 +27,14 @@ own_more events i e below is =
     ∙ ap (λ k. own_line k (get_or events i e)) n
     ∙ ap (own_line i) (sym is))
 
--- the lines of events that have the names by these descriptions
-pub named_alike : (order : Dynamic) (descriptions : List ℕ) (first : ℕ) (events : List Event) → All (λ (e : Event). name_view e.name ≡ name_of order descriptions (event_view e)) events
-    → own_lines first events ≡ event_lines order descriptions first (map event_view events)
-named_alike order descriptions first [] d = refl
-named_alike order descriptions first (e ∷ es) d =
-    let there : own_name e ≡ name_in order descriptions (event_view e) = ap name_text (All-head (λ (e : Event). name_view e.name ≡ name_of order descriptions (event_view e)) e es d) in
+-- the lines of events that have these names
+pub named_alike : (naming : ℕ → FileEvent → Name) (first : ℕ) (events : List Event) → ((n : ℕ) (d : Event) → n < length events → name_view (get_or events n d).name ≡ naming (first + n) (event_view (get_or events n d)))
+    → own_lines first events ≡ event_lines naming first (map event_view events)
+named_alike naming first [] d = refl
+named_alike naming first (e ∷ es) d =
+    let there : own_name e ≡ name_text (naming first (event_view e)) = ap name_text (d 0 e (omega arith) ∙ ap (λ n. naming n (event_view e)) (add-zero first)) in
     ap (λ name. event_line first name (event_view e) ++ own_lines (first + 1) es) there
-    ∙ ap (λ rest. event_line first (name_in order descriptions (event_view e)) (event_view e) ++ rest)
-    (named_alike order descriptions (first + 1) es (All-tail (λ (e : Event). name_view e.name ≡ name_of order descriptions (event_view e)) e es d))
+    ∙ ap (λ rest. event_line first (name_text (naming first (event_view e))) (event_view e) ++ rest)
+    (named_alike naming (first + 1) es (λ n x lt.
+    let moved : first + suc n ≡ first + 1 + n = omega arith in
+    d (suc n) x (omega (arith, lt)) ∙ ap (λ k. naming k (event_view (get_or es n x))) moved))

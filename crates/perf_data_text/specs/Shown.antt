@@ -4,8 +4,9 @@ use Rattle.std.specs.Io.KnownBytes.{Appends}
 use Rattle.perf_lines.specs.Outcomes.{status_of}
 use Rattle.perf_lines.specs.declared.outcome.Outcome.{Outcome}
 use Rattle.perf_lines.specs.declared.outcome.Outcome.TheVariants as outcome
-use Rattle.perf_file.specs.Features.{file_descriptions}
-use Rattle.perf_file.specs.Opened.{File, opened}
+use Rattle.perf_file.specs.Forms.{opened, event_name}
+use Rattle.perf_file.specs.Names.{Name}
+use Rattle.perf_file.specs.Opened.{File, FileEvent}
 use Rattle.perf_file.specs.Opens.{Fails}
 use Rattle.perf_file.specs.Pieces.{pieces_of}
 use Rattle.perf_file.specs.declared.error.OpenError.{OpenError}
@@ -16,14 +17,14 @@ use Rattle.perf_data_text.specs.HeaderText.{header_text, is_refused}
 use Rattle.perf_data_text.specs.declared.run.Show.{Show}
 use Rattle.perf_data_text.specs.declared.run.Show.TheVariants as show
 
--- the text of what is shown of a file with these bytes and these descriptions of its events, in which
--- some frames or features are refused or none
-abbrev pub IsTextOf : Show → File → (bytes descriptions : List ℕ) → (refused : Bool) → List ℕ → Type 0
-IsTextOf show.Events f bytes descriptions refused text = (refused ≡ false) × (text ≡ events_text f descriptions)
-IsTextOf show.EventsWithHeader f bytes descriptions refused text =
-    (refused ≡ is_refused f.order bytes) × (text ≡ header_text f.order bytes ++ events_text f descriptions)
-IsTextOf show.Dump f bytes descriptions refused text = IsTextOfPieces f (pieces_of f) refused text
-IsTextOf show.DumpByTime f bytes descriptions refused text = IsTextByTime f refused text
+-- the text of what is shown of a file with these bytes and these names of its events, in which some
+-- frames or features are refused or none
+abbrev pub IsTextOf : Show → File → (bytes : List ℕ) → (naming : ℕ → FileEvent → Name) → (refused : Bool) → List ℕ → Type 0
+IsTextOf show.Events f bytes naming refused text = (refused ≡ false) × (text ≡ events_text f naming)
+IsTextOf show.EventsWithHeader f bytes naming refused text =
+    (refused ≡ is_refused f.order bytes) × (text ≡ header_text f.order bytes ++ events_text f naming)
+IsTextOf show.Dump f bytes naming refused text = IsTextOfPieces f (pieces_of f) refused text
+IsTextOf show.DumpByTime f bytes naming refused text = IsTextByTime f refused text
 
 -- the outcome of a text that could be written
 abbrev pub outcome_of : Bool → Outcome
@@ -35,14 +36,14 @@ Writes outcome.Stopped refused text old new = (n : ℕ) × Appends old new (take
 Writes how refused text old new = (how ≡ outcome_of refused) × Appends old new text
 
 -- what was written of a file that could be opened
-abbrev pub WritesOf : Show → File → (bytes descriptions : List ℕ) → Outcome → (old new : Option (List ℕ)) → Type 0
-WritesOf what f bytes descriptions how old new =
-    (refused : Bool) × (text : List ℕ) × IsTextOf what f bytes descriptions refused text × Writes how refused text old new
+abbrev pub WritesOf : Show → File → (bytes : List ℕ) → (naming : ℕ → FileEvent → Name) → Outcome → (old new : Option (List ℕ)) → Type 0
+WritesOf what f bytes naming how old new =
+    (refused : Bool) × (text : List ℕ) × IsTextOf what f bytes naming refused text × Writes how refused text old new
 
 -- What was written of the bytes of a file: the text of what it contains, or nothing, if it cannot be
 -- opened or memory runs out.
 abbrev pub Shows : Show → List ℕ → Result Outcome OpenError → (old new : Option (List ℕ)) → Type 0
-Shows what bytes (Ok how) old new = (f : File) × (opened bytes ≡ Ok f) × WritesOf what f bytes (file_descriptions bytes) how old new
+Shows what bytes (Ok how) old new = (f : File) × (opened bytes ≡ Ok f) × WritesOf what f bytes (event_name bytes f) how old new
 Shows what bytes (Err e) old new = Fails e (opened bytes) × (new ≡ old)
 
 -- the exit status: 2 if the file cannot be opened, 3 if memory runs out

@@ -1,7 +1,8 @@
 //! The events of a file, a line each.
 
-ghost use Rattle.std.specs.Prelude.{◌≡◌, ◌++◌, List, ℕ, IfOk, OnOk, codes, decimal, string_bytes};
-ghost use Rattle.perf_file.specs.Opened.{event_view};
+ghost use Rattle.std.specs.Prelude.{◌≡◌, ◌++◌, ℕ, IfOk, OnOk, codes, decimal, string_bytes};
+ghost use Rattle.perf_file.specs.Names.{Name};
+ghost use Rattle.perf_file.specs.Opened.{FileEvent, event_view};
 ghost use Rattle.perf_file.specs.Views.{view};
 ghost use Rattle.perf_lines.specs.Fields.{with_spaces};
 ghost use Rattle.perf_data_text.specs.EventText as events;
@@ -14,9 +15,9 @@ use std::alloc::{AllocError, Global};
 /// A line for each event: its number, its name, its type and its config, what its samples contain,
 /// and how many ids it has.
 pub fn text_of_events(alloc: Global, recording: &Recording<'_>) -> Result<String, AllocError>
-    ensures { (descriptions : List ℕ) → own.AreDescribedBy recording.now descriptions →
+    ensures { (naming : ℕ → FileEvent → Name) → own.AreNamedBy recording.now naming →
         IfOk result (λ text. string_bytes text
-        ≡ events.events_text (view recording.now) descriptions) }
+        ≡ events.events_text (view recording.now) naming) }
 {
     let mut text = String::new(alloc);
     push_events(&mut text, recording.events())?;

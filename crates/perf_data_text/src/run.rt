@@ -1,8 +1,10 @@
 //! The engine of the program: opens a file and writes what is inside.
 
-ghost use Rattle.std.specs.Prelude.{◌≡◌, List, ℕ, IfOk, string_bytes};
+ghost use Rattle.std.specs.Prelude.{◌≡◌, ℕ, IfOk, string_bytes};
+ghost use Rattle.perf_file.specs.Names.{Name};
+ghost use Rattle.perf_file.specs.Opened.{FileEvent};
 ghost use Rattle.perf_file.specs.Views.{view};
-ghost use Rattle.perf_data_text.specs.OwnNames.{AreDescribedBy};
+ghost use Rattle.perf_data_text.specs.OwnNames.{AreNamedBy};
 ghost use Rattle.perf_data_text.specs.Shown as shown;
 
 use crate::dump::{text_by_time, text_of_dump};
@@ -63,8 +65,8 @@ fn text_of(
     recording: &Recording<'_>,
     what: Show,
 ) -> Result<(String, bool), AllocError>
-    ensures { (descriptions : List ℕ) → AreDescribedBy recording.now descriptions →
-        IfOk result (λ made. shown.IsTextOf what (view recording.now) recording.now.bytes.now descriptions made.1
+    ensures { (naming : ℕ → FileEvent → Name) → AreNamedBy recording.now naming →
+        IfOk result (λ made. shown.IsTextOf what (view recording.now) recording.now.bytes.now naming made.1
         (string_bytes made.0)) }
 {
     match what {
@@ -84,9 +86,9 @@ fn text_of(
 // The text of what perf states about the machine and the command, and that of the events; and whether
 // a feature is refused.
 fn text_with_header(alloc: Global, recording: &Recording<'_>) -> Result<(String, bool), AllocError>
-    ensures { (descriptions : List ℕ) → AreDescribedBy recording.now descriptions →
+    ensures { (naming : ℕ → FileEvent → Name) → AreNamedBy recording.now naming →
         IfOk result (λ made. shown.IsTextOf Show.EventsWithHeader (view recording.now)
-        recording.now.bytes.now descriptions made.1 (string_bytes made.0)) }
+        recording.now.bytes.now naming made.1 (string_bytes made.0)) }
 {
     let (mut text, refused) = text_of_header(alloc, recording)?;
     let events = text_of_events(alloc, recording)?;

@@ -11,7 +11,7 @@ use Rattle.perf_base.specs.declared.sys.perf_event_attr.{perf_event_attr}
 use Rattle.perf_file.specs.IdPlaces as places
 use Rattle.perf_file.specs.IdSections.{id_sections_in, sections_of, checked_apart}
 use Rattle.perf_file.specs.IdTables.{id_table, event_of, checked_table}
-use Rattle.perf_file.specs.Opened.{File, FileEvent, opened, event_in, file_with, table_of}
+use Rattle.perf_file.specs.Opened.{File, FileEvent, opened_file, event_in, file_with, table_of}
 use Rattle.perf_file.specs.Opens.{◌>>=◌}
 use Rattle.perf_file.specs.Outlines.{id_count, counted_ids, apart_parts, table_in, words_in}
 use Rattle.perf_file.specs.Sections.{ShareNothing, IsInside}
@@ -70,21 +70,21 @@ event_list {bytes} {h} {parts} events has is =
     let same : events ≡ map (flat_event h.order) (zip has.attributes has.ids) = cc in same
 
 -- events without a common place of their ids are refused
-pub places_refused : (bytes : List ℕ) (h : Head) (parts : List Section) (events : List FlatEvent) (e : OpenError) → HasEvents bytes h parts → flat_events bytes h (drop 3 parts) ≡ Ok events → checked_places events ≡ Err e → opened bytes ≡ Err e
+pub places_refused : (bytes : List ℕ) (h : Head) (parts : List Section) (events : List FlatEvent) (e : OpenError) → HasEvents bytes h parts → flat_events bytes h (drop 3 parts) ≡ Ok events → checked_places events ≡ Err e → opened_file bytes ≡ Err e
 places_refused bytes h parts events e has is refused =
     let no : places.checked_places has.attributes ≡ Err e = sym (places_are h.order has.attributes has.ids has.many) ∙ ap checked_places (sym (event_list events has is)) ∙ refused in
     has.opens ∙ ap (λ r. (r >>= λ place. checked_table (table_in (order_of h.order) bytes has.ids)) >>= λ found. Ok (file_with bytes h (map (event_in (order_of h.order) bytes) (zip has.attributes has.ids)))) no
 
 -- what opening depends on, once places were compared
 table_left : (bytes : List ℕ) (h : Head) (parts : List Section) (events : List FlatEvent) (has : HasEvents bytes h parts) → flat_events bytes h (drop 3 parts) ≡ Ok events → checked_places events ≡ Ok tt
-    → opened bytes ≡ (checked_table (table_in (order_of h.order) bytes has.ids) >>= λ found. Ok (file_with bytes h (map (event_in (order_of h.order) bytes) (zip has.attributes has.ids))))
+    → opened_file bytes ≡ (checked_table (table_in (order_of h.order) bytes has.ids) >>= λ found. Ok (file_with bytes h (map (event_in (order_of h.order) bytes) (zip has.attributes has.ids))))
 table_left bytes h parts events has is fine =
     let yes : places.checked_places has.attributes ≡ Ok tt = sym (places_are h.order has.attributes has.ids has.many) ∙ ap checked_places (sym (event_list events has is)) ∙ fine in
     has.opens ∙ ap (λ r. (r >>= λ place. checked_table (table_in (order_of h.order) bytes has.ids)) >>= λ found. Ok (file_with bytes h (map (event_in (order_of h.order) bytes) (zip has.attributes has.ids)))) yes
 
 -- an id of two events is refused
 pub table_refused : (bytes : List ℕ) (h : Head) (parts : List Section) (events : List FlatEvent) (ids : List IdOfEvent) (e : OpenError) → HasEvents bytes h parts → flat_events bytes h (drop 3 parts) ≡ Ok events → checked_places events ≡ Ok tt
-    → ids ≡ table_in (order_of h.order) bytes (drop 3 parts) → checked_table ids ≡ Err e → opened bytes ≡ Err e
+    → ids ≡ table_in (order_of h.order) bytes (drop 3 parts) → checked_table ids ≡ Err e → opened_file bytes ≡ Err e
 table_refused bytes h parts events ids e has is fine listed refused =
     let t : table_in (order_of h.order) bytes has.ids ≡ ids = ap (λ ps. table_in (order_of h.order) bytes (drop 3 ps)) (sym has.parts_are) ∙ sym listed in
     table_left bytes h parts events has is fine ∙ ap (λ xs. checked_table xs >>= λ found. Ok (file_with bytes h (map (event_in (order_of h.order) bytes) (zip has.attributes has.ids)))) t
@@ -103,12 +103,12 @@ numbers_are o bytes (e ∷ es) = ap (λ xs. numbers_of o (event_in (order_of o) 
 -- the events of the file are those that were written
 pub is_read : (bytes : List ℕ) (h : Head) (parts : List Section) (events : List FlatEvent) (ids sorted : List IdOfEvent) → HasEvents bytes h parts → flat_events bytes h (drop 3 parts) ≡ Ok events → checked_places events ≡ Ok tt
     → ids ≡ table_in (order_of h.order) bytes (drop 3 parts) → checked_table ids ≡ Ok tt → IsPermutation ids sorted → IsNonDecreasingBy (λ (e : IdOfEvent). e.id) sorted → ((id : ℕ) → event_of sorted id ≡ event_of ids id)
-    → (f : File) × (opened bytes ≡ Ok f) × IsRead bytes f events sorted
+    → (f : File) × (opened_file bytes ≡ Ok f) × IsRead bytes f events sorted
 is_read bytes h parts events ids sorted has is fine listed one moved rises found =
     let o = order_of h.order in
     let f = file_with bytes h (map (event_in o bytes) (zip has.attributes has.ids)) in
     let t : table_in o bytes has.ids ≡ ids = ap (λ ps. table_in o bytes (drop 3 ps)) (sym has.parts_are) ∙ sym listed in
-    let whole : opened bytes ≡ Ok f = table_left bytes h parts events has is fine ∙ ap (λ xs. checked_table xs >>= λ found. Ok f) t ∙ ap (λ r. r >>= λ found. Ok f) one in
+    let whole : opened_file bytes ≡ Ok f = table_left bytes h parts events has is fine ∙ ap (λ xs. checked_table xs >>= λ found. Ok f) t ∙ ap (λ r. r >>= λ found. Ok f) one in
     let table : ids ≡ table_of f.events = sym t ∙ ap (λ xs. id_table 0 xs) (sym (ids_zip o bytes has.attributes has.ids has.many)) in (
       f,
       whole,
@@ -149,6 +149,6 @@ all_after P (suc n) (x ∷ xs) h = all_after P n xs (λ k d lt. h (suc k) d (ome
 -- what comparing the ids returns is what opening the file does
 pub read_ends : (result : Result (Unit {0}) OpenError) (bytes : List ℕ) (h : Head) (parts : List Section) (events : List FlatEvent) (ids sorted : List IdOfEvent) → HasEvents bytes h parts → flat_events bytes h (drop 3 parts) ≡ Ok events → checked_places events ≡ Ok tt
     → ids ≡ table_in (order_of h.order) bytes (drop 3 parts) → result ≡ checked_table ids → IsPermutation ids sorted → IsNonDecreasingBy (λ (e : IdOfEvent). e.id) sorted → OnOk result ((id : ℕ) → event_of sorted id ≡ event_of ids id)
-    → ReadsFile bytes (opened bytes) result events sorted
+    → ReadsFile bytes (opened_file bytes) result events sorted
 read_ends (Ok done) bytes h parts events ids sorted has is fine listed table moved rises found = is_read bytes h parts events ids sorted has is fine listed (sym table) moved rises found
 read_ends (Err e) bytes h parts events ids sorted has is fine listed table moved rises found = table_refused bytes h parts events ids e has is fine listed (sym table)

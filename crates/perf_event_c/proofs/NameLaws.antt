@@ -11,7 +11,7 @@ use Rattle.perf_file.specs.Attributes.{attributes_in}
 use Rattle.perf_file.specs.Features.{part_in, descriptions_of, file_descriptions}
 use Rattle.perf_file.specs.Heads.{head_in, checked_features, checked_parts}
 use Rattle.perf_file.specs.Names.{Name, first_of, key_of, name_of, name_with}
-use Rattle.perf_file.specs.Opened.{File, FileEvent, opened, checked_head, events_in, checked_events, file_with}
+use Rattle.perf_file.specs.Opened.{File, FileEvent, opened_file, checked_head, events_in, checked_events, file_with}
 use Rattle.perf_file.specs.Opens.{◌>>=◌}
 use Rattle.perf_file.specs.declared.head.Head.{Head}
 use Rattle.perf_file.proofs.NamePlacing.{first_word}
@@ -118,8 +118,8 @@ pub record HasHead (bytes : List ℕ) (f : File) : Type 0 where
 descriptions_are : (bytes : List ℕ) (h : Head) → head_in bytes ≡ Ok h → file_descriptions bytes ≡ descriptions_of bytes h
 descriptions_are bytes h is = rw (file_descriptions, is) refl
 
-pub head_of_file : (bytes : List ℕ) (f : File) → opened bytes ≡ Ok f → HasHead bytes f
-unfolding opened
+pub head_of_file : (bytes : List ℕ) (f : File) → opened_file bytes ≡ Ok f → HasHead bytes f
+unfolding opened_file
 head_of_file bytes f whole =
     let g = bind_ok (checked_head bytes) (λ h. events_in bytes h >>= λ es. checked_events es >>= λ found. Ok (file_with bytes h es)) f whole in
     let placed = of_head bytes g.0 f g.1 g.2 in

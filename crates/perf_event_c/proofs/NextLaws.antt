@@ -11,7 +11,7 @@ use Rattle.perf_base.specs.declared.sys.perf_event_attr.{perf_event_attr}
 use Rattle.perf_file.specs.Entries as file_entries
 use Rattle.perf_file.specs.Heads.{head_in, checked_features, checked_parts}
 use Rattle.perf_file.specs.IdPlaces as places
-use Rattle.perf_file.specs.Opened.{File, FileEvent, opened, checked_head, events_in, checked_events, file_with, attributes_of}
+use Rattle.perf_file.specs.Opened.{File, FileEvent, opened_file, checked_head, events_in, checked_events, file_with, attributes_of}
 use Rattle.perf_file.specs.Opens.{◌>>=◌}
 use Rattle.perf_file.specs.Outlines.{outline, outline_with, checked_attributes, counted_ids}
 use Rattle.perf_file.specs.Owners as owners
@@ -71,8 +71,8 @@ of_head bytes h f is made =
       inside = subst (λ (k : Head). is_inside bytes k.frames ≡ true) same (good_frames bytes d.0 j.0 j.1);
     }
 
-pub is_placed : (bytes : List ℕ) (o : Outline) (f : File) → outline bytes ≡ Ok o → opened bytes ≡ Ok f → IsPlaced bytes o.head f
-unfolding opened
+pub is_placed : (bytes : List ℕ) (o : Outline) (f : File) → outline bytes ≡ Ok o → opened_file bytes ≡ Ok f → IsPlaced bytes o.head f
+unfolding opened_file
 is_placed bytes o f sketched whole =
     let a = bind_ok (checked_head bytes) (λ h. checked_attributes bytes h >>= λ done. counted_ids bytes h >>= λ n. Ok (outline_with h n)) o sketched in
     let b = bind_ok (checked_attributes bytes a.0) (λ done. counted_ids bytes a.0 >>= λ n. Ok (outline_with a.0 n)) o a.2 in

@@ -1,7 +1,7 @@
 //! A `perf.data` file, before its events are read.
 
 ghost use Rattle.std.specs.Prelude.{◌≡◌, ◌≢◌, Err};
-ghost use Rattle.perf_file.specs.Opened.{opened};
+ghost use Rattle.perf_file.specs.Opened.{opened_file};
 ghost use Rattle.perf_file.specs.Outlines.{outline};
 ghost use Rattle.perf_file.specs.declared.error.OpenError.{OpenError};
 ghost use Rattle.perf_event_c.specs.Files as files;
@@ -95,7 +95,7 @@ fn flat_file(outline: Outline) -> FlatFile
 #[unsafe(no_mangle)]
 pub extern "C" fn ped_file_open(alloc: Global, bytes: &[u8], file: &mut FlatFile) -> u32
     ensures opened { files.OpensFile (outline bytes.now) result file.old file.new }
-    ensures refused { result ≢ 0 → (e : OpenError) × (opened bytes.now ≡ Err e)
+    ensures refused { result ≢ 0 → (e : OpenError) × (opened_file bytes.now ≡ Err e)
         × (result ≡ files.open_code e) }
 {
     match outline_of(alloc, bytes) {

@@ -1,7 +1,7 @@
 //! Frames of a file, by their offsets and times.
 
 ghost use Rattle.std.specs.Prelude.{◌≡◌, ◌-◌, ◌<◌, ◌≤◌, Ok, Some, MatchOption, option_map, slice_index_or, drop, length};
-ghost use Rattle.perf_file.specs.Opened.{File, opened};
+ghost use Rattle.perf_file.specs.Opened.{File, opened_file};
 ghost use Rattle.perf_file.specs.Outlines.{outline};
 ghost use Rattle.perf_file.specs.declared.summary.Outline.{Outline};
 ghost use Rattle.perf_records.specs.Sights.{sight_of};
@@ -160,7 +160,7 @@ pub extern "C" fn ped_file_next(
     at: &mut u64,
     entry: &mut FlatEntry,
 ) -> u32
-    ensures { (o : Outline) (f : File) → outline bytes.now ≡ Ok o → opened bytes.now ≡ Ok f →
+    ensures { (o : Outline) (f : File) → outline bytes.now ≡ Ok o → opened_file bytes.now ≡ Ok f →
         file.now ≡ flat_file o → IsRead bytes.now f all.now ids.now →
         entries.ReadsNext f at.old result at.new entry.old entry.new }
 {

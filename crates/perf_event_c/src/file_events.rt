@@ -4,7 +4,7 @@ ghost use Rattle.std.specs.Prelude.{◌≡◌, ◌+◌, ◌≤◌, Ok, Err, OnOk
 ghost use Rattle.perf_file.specs.Filled.{Fills};
 ghost use Rattle.perf_file.specs.Heads.{IsGoodHead};
 ghost use Rattle.perf_file.specs.IdSections.{entry_count};
-ghost use Rattle.perf_file.specs.Opened.{File, opened, checked_head};
+ghost use Rattle.perf_file.specs.Opened.{File, opened_file, checked_head};
 ghost use Rattle.perf_file.specs.Outlines as outlines;
 ghost use Rattle.perf_file.specs.declared.error.OpenError.{OpenError};
 ghost use Rattle.perf_file.specs.declared.summary.Outline.{Outline};
@@ -141,7 +141,7 @@ fn read_events(
     requires events_room { length all.old ≡ entry_count head }
     requires parts_room { length parts.old ≡ 3 + entry_count head }
     requires ids_room { outlines.counted_ids bytes.now head ≡ Ok (length ids.old) }
-    ensures file { events.ReadsFile bytes.now (opened bytes.now) result all.new ids.new }
+    ensures file { events.ReadsFile bytes.now (opened_file bytes.now) result all.new ids.new }
     ensures inside { OnOk result (events.HaveIds bytes.now all.new) }
 {
     read_parts(bytes, head, parts)?;
@@ -175,16 +175,16 @@ pub extern "C" fn ped_file_events(
 ) -> u32
     ensures opened { (o : Outline) → outlines.outline bytes.now ≡ Ok o →
         events.has_room o (length all.old) (length parts.old) (length ids.old) ≡ true →
-        events.ReadsEvents bytes.now (opened bytes.now) result all.new ids.new }
+        events.ReadsEvents bytes.now (opened_file bytes.now) result all.new ids.new }
     ensures inside { (o : Outline) (f : File) → outlines.outline bytes.now ≡ Ok o →
         events.has_room o (length all.old) (length parts.old) (length ids.old) ≡ true →
-        opened bytes.now ≡ Ok f → events.HaveIds bytes.now all.new }
+        opened_file bytes.now ≡ Ok f → events.HaveIds bytes.now all.new }
     ensures other { (o : Outline) → outlines.outline bytes.now ≡ Ok o →
         events.has_room o (length all.old) (length parts.old) (length ids.old) ≡ false →
         (result ≡ OTHER_COUNT) × (all.new ≡ all.old) × (parts.new ≡ parts.old)
         × (ids.new ≡ ids.old) }
     ensures refused { (e : OpenError) → outlines.outline bytes.now ≡ Err e →
-        (opened bytes.now ≡ Err e) × (result ≡ open_code e) × (all.new ≡ all.old)
+        (opened_file bytes.now ≡ Err e) × (result ≡ open_code e) × (all.new ≡ all.old)
         × (parts.new ≡ parts.old) × (ids.new ≡ ids.old) }
 {
     let outline = match outline_of(alloc, bytes) {

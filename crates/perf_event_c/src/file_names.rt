@@ -8,7 +8,7 @@ ghost use Rattle.perf_file.specs.Features.{descriptions_of, file_descriptions};
 ghost use Rattle.perf_file.specs.Heads.{IsGoodHead};
 ghost use Rattle.perf_file.specs.NamePlaces as places;
 ghost use Rattle.perf_file.specs.Names.{name_of};
-ghost use Rattle.perf_file.specs.Opened.{File, opened, checked_head};
+ghost use Rattle.perf_file.specs.Opened.{File, opened_file, checked_head};
 ghost use Rattle.perf_file.specs.Sections.{IsInside};
 ghost use Rattle.perf_file.specs.declared.error.OpenError.{OpenError};
 ghost use Rattle.perf_file.specs.declared.head.Head.{Head};
@@ -155,7 +155,7 @@ pub extern "C" fn ped_file_names(
 ) -> u32
     ensures named { (h : Head) → checked_head bytes.now ≡ Ok h → length found.old ≡ length all.old →
         (result ≡ 0) × names.FindsNames h bytes.now all.old all.new }
-    ensures file { (f : File) (ids : List IdOfEvent) → opened bytes.now ≡ Ok f →
+    ensures file { (f : File) (ids : List IdOfEvent) → opened_file bytes.now ≡ Ok f →
         IsRead bytes.now f all.old ids → HaveIds bytes.now all.old →
         length found.old ≡ length all.old → map (names.flat_name bytes.now) all.new ≡
         map (name_of f.order (file_descriptions bytes.now)) f.events }

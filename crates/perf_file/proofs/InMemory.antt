@@ -10,7 +10,7 @@ use Rattle.perf_file.specs.Attributes.{attribute_at, attributes_in}
 use Rattle.perf_file.specs.IdPlaces.{checked_places}
 use Rattle.perf_file.specs.IdSections.{id_section_at, id_sections_in, sections_of, checked_apart, entry_count}
 use Rattle.perf_file.specs.IdTables.{id_table, checked_table}
-use Rattle.perf_file.specs.Opened.{FileEvent, opened, checked_head, events_in, event_in, checked_events, file_with, attributes_of, table_of}
+use Rattle.perf_file.specs.Opened.{FileEvent, opened_file, checked_head, events_in, event_in, checked_events, file_with, attributes_of, table_of}
 use Rattle.perf_file.specs.Opens.{◌>>=◌}
 use Rattle.perf_file.specs.Outlines.{outline, outline_with, checked_attributes, counted_ids, apart_parts, words_in, table_in}
 use Rattle.perf_file.proofs.Whole.{same_length}
@@ -30,16 +30,16 @@ before_parts e (Err d) ri count made last k is = again d e is
 before_parts e (Ok x) (Err d) count made last k is = again d e is
 before_parts e (Ok x) (Ok y) count made last k is = absurd (cc)
 
-pub outline_refused : (bytes : List ℕ) (e : OpenError) → outline bytes ≡ Err e → opened bytes ≡ Err e
-unfolding opened
+pub outline_refused : (bytes : List ℕ) (e : OpenError) → outline bytes ≡ Err e → opened_file bytes ≡ Err e
+unfolding opened_file
 outline_refused bytes e is = go (checked_head bytes) is
   where
     go : (r : Result Head OpenError) → (r >>= λ h. checked_attributes bytes h >>= λ a. counted_ids bytes h >>= λ n. Ok (outline_with h n)) ≡ Err e → (r >>= λ h. events_in bytes h >>= λ es. checked_events es >>= λ found. Ok (file_with bytes h es)) ≡ Err e
     go (Err d) is = again d e is
     go (Ok h) is = before_parts e (attributes_in bytes h) (id_sections_in bytes h) _ (outline_with h) _ _ is
 
-pub attributes_refused : (bytes : List ℕ) (h : Head) (e : OpenError) → checked_head bytes ≡ Ok h → checked_attributes bytes h ≡ Err e → opened bytes ≡ Err e
-unfolding opened
+pub attributes_refused : (bytes : List ℕ) (h : Head) (e : OpenError) → checked_head bytes ≡ Ok h → checked_attributes bytes h ≡ Err e → opened_file bytes ≡ Err e
+unfolding opened_file
 attributes_refused bytes h e is refused = rw is (go (attributes_in bytes h) refused)
   where
     go : (r : Result (List perf_event_attr) OpenError) → done r ≡ Err e → ((r >>= λ ats. id_sections_in bytes h >>= λ ss. checked_apart (sections_of h ss) >>= λ apart. Ok (map (event_in (order_of h.order) bytes) (zip ats ss))) >>= λ es. checked_events es >>= λ found. Ok (file_with bytes h es)) ≡ Err e
@@ -85,11 +85,11 @@ pub record HasEvents (bytes : List ℕ) (h : Head) (parts : List Section) : Type
   pub attributes_are : attributes_in bytes h ≡ Ok attributes
   pub parts_are : parts ≡ sections_of h ids
   pub many : length attributes ≡ length ids
-  pub opens : opened bytes ≡ ((checked_places attributes >>= λ place. checked_table (table_in (order_of h.order) bytes ids)) >>= λ found. Ok (file_with bytes h (map (event_in (order_of h.order) bytes) (zip attributes ids))))
+  pub opens : opened_file bytes ≡ ((checked_places attributes >>= λ place. checked_table (table_in (order_of h.order) bytes ids)) >>= λ found. Ok (file_with bytes h (map (event_in (order_of h.order) bytes) (zip attributes ids))))
 
 opened_by : (bytes : List ℕ) (h : Head) (ats : List perf_event_attr) (ss : List Section) (apart : Result (Unit {0}) OpenError) → checked_head bytes ≡ Ok h → attributes_in bytes h ≡ Ok ats → id_sections_in bytes h ≡ Ok ss → checked_apart (sections_of h ss) ≡ apart
-    → opened bytes ≡ ((apart >>= λ done. Ok (map (event_in (order_of h.order) bytes) (zip ats ss))) >>= λ es. checked_events es >>= λ found. Ok (file_with bytes h es))
-unfolding opened
+    → opened_file bytes ≡ ((apart >>= λ done. Ok (map (event_in (order_of h.order) bytes) (zip ats ss))) >>= λ es. checked_events es >>= λ found. Ok (file_with bytes h es))
+unfolding opened_file
 opened_by bytes h ats ss apart a b c d = rw (a, b, c, d) refl
 
 pub has_events : (bytes : List ℕ) (h : Head) (parts : List Section) → checked_head bytes ≡ Ok h → checked_attributes bytes h ≡ Ok tt → apart_parts bytes h ≡ Ok parts → HasEvents bytes h parts
@@ -120,11 +120,11 @@ parts_stop h e (Ok ids) is = inr (ids, refl, go (checked_apart (sections_of h id
     go (Err d) c is = c ∙ again d e is
     go (Ok u) c is = absurd (cc)
 
-sections_refused : (bytes : List ℕ) (h : Head) (e : OpenError) (ats : List perf_event_attr) → checked_head bytes ≡ Ok h → attributes_in bytes h ≡ Ok ats → id_sections_in bytes h ≡ Err e → opened bytes ≡ Err e
-unfolding opened
+sections_refused : (bytes : List ℕ) (h : Head) (e : OpenError) (ats : List perf_event_attr) → checked_head bytes ≡ Ok h → attributes_in bytes h ≡ Ok ats → id_sections_in bytes h ≡ Err e → opened_file bytes ≡ Err e
+unfolding opened_file
 sections_refused bytes h e ats a b c = rw (a, b, c) refl
 
-pub parts_refused : (bytes : List ℕ) (h : Head) (e : OpenError) → checked_head bytes ≡ Ok h → checked_attributes bytes h ≡ Ok tt → apart_parts bytes h ≡ Err e → opened bytes ≡ Err e
+pub parts_refused : (bytes : List ℕ) (h : Head) (e : OpenError) → checked_head bytes ≡ Ok h → checked_attributes bytes h ≡ Ok tt → apart_parts bytes h ≡ Err e → opened_file bytes ≡ Err e
 parts_refused bytes h e is read refused =
     let a = some (attributes_in bytes h) read in
     elim (parts_stop h e (id_sections_in bytes h) refused) [

@@ -10,7 +10,7 @@ use Rattle.perf_file.specs.Opens.{◌>>=◌, each_from, Fails}
 abbrev pub with_front : {A : Type 0} → List A → Result (List A) OpenError → Result (List A) OpenError
 with_front front read = read >>= λ xs. Ok (front ++ xs)
 
-regroup : {A : Type 0} (front : List A) (n : A) (read : Result (List A) OpenError) → with_front front (read >>= λ xs. Ok (n ∷ xs)) ≡ with_front (front ++ n ∷ []) read
+pub regroup : {A : Type 0} (front : List A) (n : A) (read : Result (List A) OpenError) → with_front front (read >>= λ xs. Ok (n ∷ xs)) ≡ with_front (front ++ n ∷ []) read
 regroup {A} front n (Ok xs) = ap (λ (ns : List A). Ok ns) (simp append_assoc)
 regroup front n (Err e) = refl
 

@@ -18,3 +18,6 @@ pub mod Sizes
 pub mod Strings
 pub mod FeatureCounts
 pub mod Builds
+pub mod Noted
+pub mod EachNote
+pub mod NewNames

@@ -11,7 +11,7 @@ use Rattle.perf_file.specs.declared.error.OpenError.TheVariants as errors
 use Rattle.perf_file.specs.Attributes.{attributes_in}
 use Rattle.perf_file.specs.Heads.{IsGoodHead}
 use Rattle.perf_file.specs.IdSections.{id_sections_in, sections_of, checked_apart}
-use Rattle.perf_file.specs.Opened.{FileEvent, opened, checked_head, events_in, event_in, checked_events, file_with}
+use Rattle.perf_file.specs.Opened.{FileEvent, opened_file, checked_head, events_in, event_in, checked_events, file_with}
 use Rattle.perf_file.specs.Opens.{◌>>=◌, each_from, Fails}
 use Rattle.perf_file.specs.Sections.{IsInside, IsSmall}
 
@@ -65,6 +65,6 @@ all_small bytes sections few inside k d lt = let a = inside k d lt in omega (ari
 -- ---- the file
 
 pub opened_after : (bytes : List ℕ) (h : Head) (events : List FileEvent) (found : Result (Unit {0}) OpenError) → checked_head bytes ≡ Ok h → events_in bytes h ≡ Ok events → checked_events events ≡ found
-    → opened bytes ≡ (found >>= λ done. Ok (file_with bytes h events))
-unfolding opened
+    → opened_file bytes ≡ (found >>= λ done. Ok (file_with bytes h events))
+unfolding opened_file
 opened_after bytes h events found a b d = rw (a, b, d) refl

@@ -48,6 +48,6 @@ seen view (Err e) = Err e
 abbrev pub feature_with : List ℕ → Head → (feature : ℕ) → Result (Option (List ℕ)) BadFeature
 feature_with bytes h feature = seen (λ (s : Section). slice bytes s.start s.size) (section_of bytes h feature)
 
--- those of a file; none if it cannot be opened
-unfoldable pub feature_of : List ℕ → (feature : ℕ) → Result (Option (List ℕ)) BadFeature
-feature_of bytes feature = elim (checked_head bytes) [ Ok h ↦ feature_with bytes h feature | Err e ↦ Ok None ]
+-- those of a file that is no pipe; none if it cannot be opened
+unfoldable pub file_feature_of : List ℕ → (feature : ℕ) → Result (Option (List ℕ)) BadFeature
+file_feature_of bytes feature = elim (checked_head bytes) [ Ok h ↦ feature_with bytes h feature | Err e ↦ Ok None ]

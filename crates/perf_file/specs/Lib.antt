@@ -23,5 +23,8 @@ pub mod Filled
 pub mod Outlines
 pub mod Finders
 pub mod FeatureTable
+pub mod Pipes
+pub mod NoteViews
+pub mod Forms
 pub mod FeatureTexts
 pub mod BuildIds

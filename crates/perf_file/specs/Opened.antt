@@ -80,9 +80,9 @@ file_with bytes h events = record {
   events = events;
 }
 
--- what opening a file returns: what it contains, or the first check that fails
-unfoldable pub opened : List ℕ → Result File OpenError
-opened bytes = do
+-- what opening a file returns that is no pipe: what it contains, or the first check that fails
+unfoldable pub opened_file : List ℕ → Result File OpenError
+opened_file bytes = do
   head ← checked_head bytes
   events ← events_in bytes head
   found ← checked_events events

@@ -45,7 +45,11 @@ fn turned(order: Dynamic, mut attr: perf_event_attr) -> perf_event_attr
 }
 
 // The attribute that takes exactly these bytes.
-fn attribute_in(alloc: Global, bytes: &[u8], order: Dynamic) -> Result<perf_event_attr, ErrorKind>
+pub(crate) fn attribute_in(
+    alloc: Global,
+    bytes: &[u8],
+    order: Dynamic,
+) -> Result<perf_event_attr, ErrorKind>
     ensures { result ≡ attributes.attribute_in order bytes.now }
 {
     match read_attribute(alloc, bytes, order) {

@@ -164,6 +164,8 @@ impl<'p> Iterator for BuildIds<'p> {
 impl<'p> Recording<'p> {
     /// The build ids of the files that were mapped and of the kernel, or `None` if the file does not
     /// have them.
+    ///
+    /// `None` for what perf writes to a pipe, in which they are in frames of the type 67.
     pub fn build_ids(&self) -> Result<Option<BuildIds<'p>>, BadFeature>
         ensures { seen builds.builds_left result
             ≡ builds.build_ids_of self.now.order self.now.bytes.now }

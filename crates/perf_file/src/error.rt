@@ -67,7 +67,7 @@ pub enum OpenError {
     OldFormat,
     /// Its head has an unknown size, or is cut off.
     BadHead,
-    /// It is what `perf record -o -` writes.
+    /// It is what `perf record -o -` writes, which the calls for C do not open.
     Pipe,
     /// It is one of several files that `perf record --threads` writes.
     Directory,

@@ -42,6 +42,17 @@ impl<'p> Event<'p> {
         }
     }
 
+    // Gives it another name, as the file states.
+    pub(crate) fn rename(&mut self, name: &'p [u8])
+        ensures attr { self.new.attr ≡ self.old.attr }
+        ensures ids { self.new.ids ≡ self.old.ids }
+        ensures config { self.new.config ≡ self.old.config }
+        ensures name { names.name_view self.new.name ≡ names.described name.now }
+    {
+        let own = &mut self.name;
+        *own = EventName::Described(name);
+    }
+
     /// Its attribute. The single bits of `flags` are counted from the lowest, also if the file was
     /// written by a big-endian machine, which counts them from the highest.
     pub fn attr(&self) -> &perf_event_attr
@@ -66,7 +77,7 @@ impl<'p> Event<'p> {
         &self.ids
     }
 
-    /// Its name: the one of its description in the file, which is found by its first id, or without
+    /// Its name: in a pipe the last one that perf states for one of its ids, or else the one of its description in the file, which is found by its first id, or without
     /// ids by its type and its config; or else the one that perf prints for an event of the kernel's
     /// own; or else these two numbers.
     ///

@@ -3,9 +3,12 @@
 ghost use Rattle.std.specs.Prelude.{◌≡◌, Some};
 ghost use Rattle.perf_file.specs.FeatureTable as table;
 ghost use Rattle.perf_file.specs.FeatureTexts as texts;
+ghost use Rattle.perf_file.specs.Forms as forms;
 
 use crate::feature_table::feature_in;
+use crate::noting::noted_feature;
 use crate::opening::Recording;
+use crate::piped::pipe_order;
 use std::fmt;
 
 /// A feature, by the number that perf gives it, `HEADER_*` of its `util/header.h`.
@@ -145,10 +148,18 @@ impl std::error::Error for BadFeature {}
 
 impl<'p> Recording<'p> {
     /// The bytes of a feature, as perf wrote them, or `None` if the file does not have it. They are in
-    /// the order of the file. A file whose perf was killed has no features.
+    /// the order of the file. A file whose perf was killed has no features. In a pipe the last frame
+    /// with a feature counts.
+    #[tactic(auto, unfolding(crate::specs::Forms::feature_of))]
     pub fn feature(&self, feature: Feature) -> Result<Option<&'p [u8]>, BadFeature>
-        ensures { table.seen (λ b. b.now) result ≡ table.feature_of self.now.bytes.now feature.0 }
+        ensures { table.seen (λ b. b.now) result ≡ forms.feature_of self.now.bytes.now feature.0 }
     {
-        feature_in(self.bytes, feature.0)
+        match pipe_order(self.bytes) {
+            Some(order) => match noted_feature(order, &self.notes, u64::from(feature.0)) {
+                Some(bytes) => Ok(Some(bytes)),
+                None => Ok(None),
+            },
+            None => feature_in(self.bytes, feature.0),
+        }
     }
 }

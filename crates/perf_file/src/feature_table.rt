@@ -94,10 +94,10 @@ fn feature_with(bytes: &[u8], head: Head, feature: u8) -> Result<Option<&[u8]>, 
     }
 }
 
-/// The bytes of a feature, if the file has it.
-#[tactic(auto, unfolding(crate::specs::FeatureTable::feature_of))]
+/// The bytes of a feature, if the file, which is no pipe, has it.
+#[tactic(auto, unfolding(crate::specs::FeatureTable::file_feature_of))]
 pub fn feature_in(bytes: &[u8], feature: u8) -> Result<Option<&[u8]>, BadFeature>
-    ensures { table.seen (λ b. b.now) result ≡ table.feature_of bytes.now feature }
+    ensures { table.seen (λ b. b.now) result ≡ table.file_feature_of bytes.now feature }
 {
     match checked_head(bytes) {
         Ok(head) => feature_with(bytes, head, feature),

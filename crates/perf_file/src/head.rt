@@ -92,7 +92,7 @@ fn head_by(order: Dynamic, bytes: &[u8]) -> Result<Head, OpenError>
 }
 
 // The order of a file, by its first eight bytes.
-fn order_by(magic: u64) -> Result<Dynamic, OpenError>
+pub(crate) fn order_by(magic: u64) -> Result<Dynamic, OpenError>
     ensures { result ≡ heads.order_by magic }
 {
     match magic {

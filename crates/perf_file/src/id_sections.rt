@@ -12,6 +12,20 @@ use crate::head::{HEAD_SIZE, Head};
 use crate::section::{Section, is_inside, section_at};
 use std::alloc::{AllocError, Global};
 
+// Refuses ids that are not whole numbers, or end beyond the file.
+pub(crate) fn checked_ids(bytes: &[u8], index: usize, ids: Section) -> Result<Section, OpenError>
+    ensures value { result ≡ places.checked_ids bytes.now index ids }
+    ensures inside { IfOk result (IsInside bytes.now) }
+{
+    if ids.size % 8 != 0 {
+        return Err(OpenError::BadIds(index));
+    }
+    if !is_inside(bytes, ids) {
+        return Err(OpenError::PastEnd(Part::Ids(index)));
+    }
+    Ok(ids)
+}
+
 // Where the ids of an event are, by its number.
 pub(crate) fn id_section_at(bytes: &[u8], head: Head, index: u64) -> Result<Section, OpenError>
     requires good { IsGoodHead bytes.now head }
@@ -20,14 +34,11 @@ pub(crate) fn id_section_at(bytes: &[u8], head: Head, index: u64) -> Result<Sect
     ensures inside { IfOk result (IsInside bytes.now) }
 {
     let end = head.attributes.start + index * head.entry_size + head.entry_size;
-    let ids = section_at(head.order, bytes, end as usize - 16);
-    if ids.size % 8 != 0 {
-        return Err(OpenError::BadIds(index as usize));
-    }
-    if !is_inside(bytes, ids) {
-        return Err(OpenError::PastEnd(Part::Ids(index as usize)));
-    }
-    Ok(ids)
+    checked_ids(
+        bytes,
+        index as usize,
+        section_at(head.order, bytes, end as usize - 16),
+    )
 }
 
 /// Where the ids of each event are.

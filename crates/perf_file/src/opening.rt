@@ -1,21 +1,23 @@
 //! A file is opened.
 
-ghost use Rattle.std.specs.Prelude.{◌≡◌, ◌+◌, ◌<◌, ◌^◌, ℕ, List, IfOk, All, length, map};
+ghost use Rattle.std.specs.Prelude.{◌≡◌, ◌+◌, ◌<◌, ◌^◌, ℕ, List, None, IfOk, All, length, map, slice_index_or};
 ghost use Rattle.std.specs.List.Sorted.{IsNonDecreasingBy};
 ghost use Rattle.perf_base.specs.Configured.{endian_of};
+ghost use Rattle.perf_file.specs.Forms as forms;
 ghost use Rattle.perf_file.specs.IdPlaces as places;
 ghost use Rattle.perf_file.specs.IdTables as tables;
+ghost use Rattle.perf_file.specs.NoteViews.{note_of};
 ghost use Rattle.perf_file.specs.Opened as opens;
 ghost use Rattle.perf_file.specs.declared.events.Event.{Event};
 ghost use Rattle.perf_file.specs.declared.ids.IdOfEvent.{IdOfEvent};
 
 use crate::error::OpenError;
-use crate::event_list::{checked_head, events_in, found_events};
 use crate::events::Event;
+use crate::form_opening::{open_file, open_pipe};
 use crate::id_place::IdPlace;
 use crate::ids::IdOfEvent;
-use crate::number::bytes_at;
-use crate::reading::first_place;
+use crate::note_frames::Note;
+use crate::piped::pipe_order;
 use perf_base::endian::Dynamic;
 use std::alloc::Global;
 
@@ -24,12 +26,13 @@ use std::alloc::Global;
 pub struct Recording<'p> {
     pub(crate) bytes: &'p [u8],
     pub(crate) order: Dynamic,
-    is_closed: bool,
+    pub(crate) is_closed: bool,
     pub(crate) start: usize,
     pub(crate) frames: &'p [u8],
     pub(crate) events: Vec<Event<'p>>,
     pub(crate) ids: Vec<IdOfEvent>,
     pub(crate) place: Option<IdPlace>,
+    pub(crate) notes: Vec<Note<'p>>,
     ghost inside: { start + length frames.now < 2 ^ 64 },
     ghost rising: { IsNonDecreasingBy (λ (e : IdOfEvent). e.id) ids.items },
     ghost found: { (id : ℕ) → tables.event_of ids.items id ≡
@@ -37,45 +40,36 @@ pub struct Recording<'p> {
     ghost place_is: { place ≡
         places.first_place (opens.attributes_of (map opens.event_view events.items)) },
     ghost ordered: { All (λ (e : Event). endian_of e.config ≡ order) events.items },
+    ghost noted: { map note_of notes.items ≡ forms.notes_of bytes.now },
 }
 
 impl<'p> Recording<'p> {
-    ghost use Rattle.perf_file.specs.Features.{file_descriptions};
     ghost use Rattle.perf_file.specs.Names as names;
     ghost use Rattle.perf_file.specs.Opens.{Gives};
+    ghost use Rattle.perf_file.specs.Pipes.{pipe_order};
     ghost use Rattle.perf_file.specs.Views.{view};
     ghost use Rattle.perf_file.specs.declared.head.Head.{Head};
     ghost use Rattle.perf_file.specs.declared.section.Section.{Section};
 
-    /// Opens a file that is all in memory.
+    /// Opens a file that is all in memory, as `perf record` writes it into a file or to a pipe.
     ///
-    /// Memory is needed for the events and their ids alone. The names of all events are found in one
-    /// reading of their descriptions. The refusal is the first check that fails, in the order of
-    /// [`OpenError`].
-    #[tactic(auto, unfolding(crate::specs::Opened::opened))]
+    /// Memory is needed for the events and their ids, and in a pipe for the frames by which perf states
+    /// something. The names of all events are found in one reading of their descriptions. The refusal is
+    /// the first check that fails, in the order of [`OpenError`].
+    #[tactic(auto, unfolding(crate::specs::Forms::opened, crate::specs::Forms::event_name))]
     pub fn open(alloc: Global, bytes: &'p [u8]) -> Result<Recording<'p>, OpenError>
-        ensures exact { Gives view result (opens.opened bytes.now) }
-        ensures sound { IfOk result (λ _.
+        ensures exact { Gives view result (forms.opened bytes.now) }
+        ensures sound { pipe_order bytes.now ≡ None → IfOk result (λ _.
             (h : Head) × (ids : List Section) × opens.IsSound bytes.now h ids) }
         ensures bytes { IfOk result (λ r. r.bytes.now ≡ bytes.now) }
-        ensures named { IfOk result (λ r. All (λ (e : Event). names.name_view e.name ≡
-            names.name_of r.order (file_descriptions bytes.now) (opens.event_view e)) r.events.items) }
+        ensures named { IfOk result (λ r. (n : ℕ) (d : Event) → n < length r.events.items →
+            names.name_view (slice_index_or r.events.items n d).name ≡ forms.event_name bytes.now
+            (view r) n (opens.event_view (slice_index_or r.events.items n d))) }
     {
-        let head = checked_head(bytes)?;
-        let events = events_in(alloc, bytes, head)?;
-        let ids = found_events(alloc, &events)?;
-        let place = first_place(&events);
-        let start = head.frames.start as usize;
-        Ok(Recording {
-            bytes,
-            order: head.order,
-            is_closed: head.is_closed,
-            start,
-            frames: bytes_at(bytes, start, head.frames.size as usize),
-            events,
-            ids,
-            place,
-        })
+        match pipe_order(bytes) {
+            Some(order) => open_pipe(alloc, order, bytes),
+            None => open_file(alloc, bytes),
+        }
     }
 
     /// The order of its numbers: that of the machine on which it was recorded.

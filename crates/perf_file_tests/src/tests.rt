@@ -5,4 +5,5 @@ mod files;
 mod many;
 mod names;
 mod opened;
+mod pipes;
 mod refused;

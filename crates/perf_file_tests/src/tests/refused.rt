@@ -48,7 +48,7 @@ const REFUSED: [(usize, u64, usize, OpenError); 22] = [
     (0, 0x454c_4946_4652_4550, ALL, OpenError::OldFormat),
     (1, 96, ALL, OpenError::BadHead),
     (WORDS, 0, 103, OpenError::BadHead),
-    (1, 16, ALL, OpenError::Pipe),
+    (1, 16, ALL, OpenError::NoAttributes),
     (9, 1 << 24, ALL, OpenError::Directory),
     (9, 1 << 27, ALL, OpenError::Compressed),
     (3, 1 << 20, ALL, OpenError::PastEnd(Part::Attributes)),
