@@ -70,8 +70,11 @@ try_wheel() {
         try "the wheel has $file" sh -c '[ -n "$(find "$1" -path "*/perf_event_data*/$2")" ]' sh "$work/venv" "$file"
     done
     if command -v mypy >/dev/null; then
-        try "type hints of first.py and of the module, by mypy" \
-            mypy --strict --cache-dir=/dev/null --python-executable "$python" "$work/first.py" "$here/python/perf_event_data.py"
+        try "type hints of first.py, by mypy" \
+            mypy --strict --cache-dir=/dev/null --python-executable "$python" "$work/first.py"
+        # numpy need not be here
+        try "type hints of the module, by mypy" \
+            mypy --strict --cache-dir=/dev/null --ignore-missing-imports "$here/python/perf_event_data.py"
     else
         skip "type hints of first.py and of the module: no mypy"
     fi
