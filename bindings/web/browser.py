@@ -205,11 +205,18 @@ class Firefox(Browser):
         """The next message."""
         size = b""
         while not size.endswith(b":"):
-            size += self.link.recv(1) or b"0:"
+            size += self.some(1)
         data = b""
         while len(data) < int(size[:-1]):
-            data += self.link.recv(1 << 16)
-        return json.loads(data or b"[1, 0, {\"error\": \"gone\", \"message\": \"Firefox has ended\"}, null]")
+            data += self.some(1 << 16)
+        return json.loads(data)
+
+    def some(self, count):
+        """The next bytes, at most so many."""
+        data = self.link.recv(count)
+        if not data:
+            raise AssertionError("gone: Firefox has ended")
+        return data
 
     def call(self, name, words, part="WebDriver"):
         self.count += 1
