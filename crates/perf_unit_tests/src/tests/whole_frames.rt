@@ -68,6 +68,8 @@ enum Part {
     Readings,
     // Its sample, read into the place of an older one.
     Placed,
+    // The same, and the record that a visit makes, where a refusal is a bad frame.
+    Tried,
 }
 
 // The text of the first frame of some bytes.
@@ -92,6 +94,7 @@ fn write_part(
         Part::Numbers => write_numbers(text, frame),
         Part::Readings => write_readings(text, alloc, frame),
         Part::Placed => write_sample_in_place(text, alloc, frame),
+        Part::Tried => write_tried(text, alloc, frame),
     }
 }
 
@@ -166,6 +169,31 @@ fn write_sample_into<'p>(
         Err(error) => write_error(text, &error)?,
     }
     write_fields(text, place)
+}
+
+fn write_tried<'p>(
+    text: &mut String,
+    alloc: Global,
+    frame: &Frame<'_, 'p>,
+) -> Result<(), AllocError> {
+    let mut place: Sample<'p> = older_sample();
+    match frame.try_sample_into(alloc, &config(), &mut place) {
+        Ok(is_put) => write!(text, "{is_put}")?,
+        Err(bad) => write_bad(text, bad)?,
+    }
+    write_fields(text, &place)?;
+    drop(place);
+    text.push_str("; ")?;
+    match frame.try_visit(alloc, &config(), RecordVisitor::new(alloc)) {
+        Ok(record) => write_debug_record(text, record),
+        Err(bad) => write_bad(text, bad),
+    }
+}
+
+// Writes the size, the kind and the error.
+fn write_bad(text: &mut String, bad: BadFrame) -> Result<(), AllocError> {
+    write!(text, "{} {:?} ", bad.header().size, bad.kind())?;
+    write_error(text, &bad.error())
 }
 
 // A sample with the address 1, and no other field.
@@ -273,6 +301,25 @@ fn a_sample_takes_the_place_of_another(rt: HostRuntime) {
     ];
     for (bytes, want) in parts {
         check_text(&rt, text_of_first(rt.alloc(), bytes, Part::Placed), want);
+    }
+}
+
+#[test]
+fn a_refused_frame_is_a_bad_frame(rt: HostRuntime) {
+    let parts = [
+        (SHORT, "9 Eof Eof (None, None, None); 9 Eof Eof"),
+        (
+            NO_ROOM,
+            "false (Some(1), None, None); 24 InvalidRecord InvalidRecord",
+        ),
+        (
+            NAMED,
+            "false (Some(1), None, None); \
+            Comm(Comm { pid: 1, tid: 2, comm: Borrowed([115, 104]) }); ",
+        ),
+    ];
+    for (bytes, want) in parts {
+        check_text(&rt, text_of_first(rt.alloc(), bytes, Part::Tried), want);
     }
 }
 
