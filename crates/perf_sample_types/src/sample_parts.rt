@@ -220,7 +220,10 @@ impl<'p, I: Input<'p>> ReadField<'p, I> for Branches<'p> {
         let count = reader.read_u64()?;
         let with_index = reader.config().branch_hw_index();
         let hw_index = reader.read_u64_if(with_index)?;
-        let spare = spare_of(reader.alloc(), old.take().and_then(|branches| branches.entries));
+        let spare = spare_of(
+            reader.alloc(),
+            old.take().and_then(|branches| branches.entries),
+        );
         let entries = read_branches(reader, spare, count as usize)?;
         Ok(Branches {
             hw_index,
