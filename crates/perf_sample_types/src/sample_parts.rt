@@ -19,6 +19,7 @@ use perf_reader::spare::spare_of;
 use perf_types::group_memory::{group_of_value, read_group_over};
 use perf_types::{ReadGroup, ReadValue};
 use perf_words::{BranchEntry, DataSource, ReadFormat, Txn};
+use std::alloc::Global;
 
 impl SampleField for u64 {
     ghost parts = { λ _. sample.plain };
@@ -152,6 +153,15 @@ impl SampleField for CallChain<'_> {
     ghost takes_list = { true };
 }
 
+// The memory of a call chain's addresses. The place is emptied.
+#[inline(always)]
+fn spare_addresses(alloc: Global, old: &mut Option<CallChain<'_>>) -> Vec<u64> {
+    match old.take() {
+        Some(chain) => spare_of(alloc, Some(chain.0)),
+        None => Vec::new(alloc),
+    }
+}
+
 impl<'p, I: Input<'p>> ReadField<'p, I> for CallChain<'p> {
     #[inline]
     fn read_field<E: Endian>(
@@ -159,7 +169,7 @@ impl<'p, I: Input<'p>> ReadField<'p, I> for CallChain<'p> {
         old: &mut Option<Self>,
     ) -> ReadResult<Self> {
         let count = reader.read_u64()?;
-        let spare = spare_of(reader.alloc(), old.take().map(|chain| chain.0));
+        let spare = spare_addresses(reader.alloc(), old);
         let addresses = reader.read_numbers_over(spare, count as usize)?;
         Ok(CallChain(CowSlice::Owned(addresses)))
     }
@@ -210,6 +220,15 @@ impl SampleField for Branches<'_> {
     ghost takes_list = { true };
 }
 
+// The memory of branches. The place is emptied.
+#[inline(always)]
+fn spare_branches(alloc: Global, old: &mut Option<Branches<'_>>) -> Vec<BranchEntry> {
+    match old.take() {
+        Some(branches) => spare_of(alloc, branches.entries),
+        None => Vec::new(alloc),
+    }
+}
+
 impl<'p, I: Input<'p>> ReadField<'p, I> for Branches<'p> {
     #[inline]
     #[tactic(auto, using(crate::proofs::BranchLists::branch_reads), unfolding(crate::specs::Sample::branch_stack))]
@@ -220,10 +239,7 @@ impl<'p, I: Input<'p>> ReadField<'p, I> for Branches<'p> {
         let count = reader.read_u64()?;
         let with_index = reader.config().branch_hw_index();
         let hw_index = reader.read_u64_if(with_index)?;
-        let spare = spare_of(
-            reader.alloc(),
-            old.take().and_then(|branches| branches.entries),
-        );
+        let spare = spare_branches(reader.alloc(), old);
         let entries = read_branches(reader, spare, count as usize)?;
         Ok(Branches {
             hw_index,
@@ -303,6 +319,15 @@ impl SampleField for UserRegisters<'_> {
     ghost takes_list = { true };
 }
 
+// The memory of their values. The place is emptied.
+#[inline(always)]
+fn spare_user_values(alloc: Global, old: &mut Option<UserRegisters<'_>>) -> Vec<u64> {
+    match old.take() {
+        Some(registers) => spare_of(alloc, Some(registers.0.regs)),
+        None => Vec::new(alloc),
+    }
+}
+
 impl<'p, I: Input<'p>> ReadField<'p, I> for UserRegisters<'p> {
     #[inline]
     #[tactic(auto, using(perf_reader::proofs::Calls::chain), unfolding(crate::specs::Sample::registers))]
@@ -311,7 +336,7 @@ impl<'p, I: Input<'p>> ReadField<'p, I> for UserRegisters<'p> {
         old: &mut Option<Self>,
     ) -> ReadResult<Self> {
         let mask = reader.config().regs_user();
-        let spare = spare_of(reader.alloc(), old.take().map(|registers| registers.0.regs));
+        let spare = spare_user_values(reader.alloc(), old);
         Ok(UserRegisters(read_registers(reader, mask, spare)?))
     }
 }
@@ -330,6 +355,15 @@ impl SampleField for InterruptRegisters<'_> {
     ghost takes_list = { true };
 }
 
+// The memory of their values. The place is emptied.
+#[inline(always)]
+fn spare_interrupt_values(alloc: Global, old: &mut Option<InterruptRegisters<'_>>) -> Vec<u64> {
+    match old.take() {
+        Some(registers) => spare_of(alloc, Some(registers.0.regs)),
+        None => Vec::new(alloc),
+    }
+}
+
 impl<'p, I: Input<'p>> ReadField<'p, I> for InterruptRegisters<'p> {
     #[inline]
     #[tactic(auto, using(perf_reader::proofs::Calls::chain), unfolding(crate::specs::Sample::registers))]
@@ -338,7 +372,7 @@ impl<'p, I: Input<'p>> ReadField<'p, I> for InterruptRegisters<'p> {
         old: &mut Option<Self>,
     ) -> ReadResult<Self> {
         let mask = reader.config().regs_intr();
-        let spare = spare_of(reader.alloc(), old.take().map(|registers| registers.0.regs));
+        let spare = spare_interrupt_values(reader.alloc(), old);
         Ok(InterruptRegisters(read_registers(reader, mask, spare)?))
     }
 }
