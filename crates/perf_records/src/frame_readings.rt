@@ -104,7 +104,6 @@ impl<'c, 'p> Frame<'c, 'p> {
     /// a SAMPLE or a NAMESPACES record, which need memory, or if the bytes do not live as long as
     /// the input. `External` never occurs.
     #[inline]
-    #[tactic(auto, using(crate::proofs::FrameErrors::error_gives))]
     pub fn record<E: Endian>(
         &self,
         alloc: Global,
@@ -122,7 +121,6 @@ impl<'c, 'p> Frame<'c, 'p> {
     /// What a visitor makes of the frame's record and metadata. The refusals are those of
     /// [`Frame::record`], and occur before the visitor is called.
     #[inline]
-    #[tactic(auto, using(crate::proofs::FrameErrors::error_gives))]
     pub fn visit<E: Endian, V: Visitor<'p>>(
         &self,
         alloc: Global,
