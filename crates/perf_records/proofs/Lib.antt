@@ -16,3 +16,4 @@ pub mod IdNumbers
 pub mod FrameEnds
 pub mod SampleNumbers
 pub mod FrameNumbers
+pub mod FrameErrors

@@ -4,7 +4,7 @@ use Rattle.std.specs.Prelude.{Result, Ok, Err, ◌≡◌, ◌≢◌, ◌<◌, Li
 use Rattle.perf_base.specs.Configuration.{Configuration}
 use Rattle.perf_base.specs.Errors.{kind_of}
 use Rattle.perf_base.specs.Order.{Order}
-use Rattle.perf_base.specs.Refusals.{IsErrorOf}
+use Rattle.perf_base.specs.Refusals.{IsErrorOf, refusal_kind}
 use Rattle.perf_base.specs.declared.error.ErrorKind.{ErrorKind}
 use Rattle.perf_base.specs.declared.error.ErrorKind.TheVariants.{External, OutOfMemory}
 use Rattle.perf_base.specs.declared.error.ParseError.{ParseError}
@@ -16,6 +16,7 @@ use Rattle.perf_records.specs.Bodies.{needs_memory}
 use Rattle.perf_records.specs.Metadata.{MetadataValue, id_length}
 use Rattle.perf_records.specs.Records.{RecordValue}
 use Rattle.perf_records.specs.Gives.{Event, event, IsSampleIn}
+use Rattle.perf_records.specs.declared.frame_handler.BadFrame.{BadFrame}
 use Rattle.perf_sample_types.specs.declared.sample.Sample.{Sample}
 
 -- the metadata of a frame, if it can be split
@@ -44,6 +45,27 @@ FrameGives gives h c o bytes borrowed (Err e) =
     × (HasNoRoom h c → IsErrorOf e NoRoomForId)
     × (kind_of e ≢ External)
     × (IsTrue borrowed → needs_memory h.type_ ≡ false → kind_of e ≢ OutOfMemory)
+
+-- The same, where a refusal is told as a bad frame: with the frame's header, and with the reason
+-- whose kind is that of the error.
+abbrev pub FrameGivesOrBad : {O : Type 0} → (Event → O → Type 0) → perf_event_header → Configuration →
+    Order → List ℕ → Bool → Result O BadFrame → Type 0
+FrameGivesOrBad gives h c o bytes borrowed (Ok output) =
+    (value : RecordValue) × (b : Bool) × (parts : FrameParts)
+    × gives (event value b parts.metadata) output
+    × (split_after c o h bytes ≡ Ok parts) × (answer_after c o h bytes ≡ Ok value)
+    × (IsTrue borrowed → IsTrue b)
+FrameGivesOrBad gives h c o bytes borrowed (Err bad) =
+    (bad.header ≡ h)
+    × (IsTrue (of_layout (refusal_kind bad.refusal)) → answer_after c o h bytes ≡ Err (refusal_kind bad.refusal))
+    × (HasNoRoom h c → bad.refusal ≡ NoRoomForId)
+    × (refusal_kind bad.refusal ≢ External)
+    × (IsTrue borrowed → needs_memory h.type_ ≡ false → refusal_kind bad.refusal ≢ OutOfMemory)
+
+-- there is no refusal for lack of memory
+abbrev pub TakesNoMemory : {O : Type 0} → Result O BadFrame → Type 0
+TakesNoMemory (Ok output) = Unit {0}
+TakesNoMemory (Err bad) = refusal_kind bad.refusal ≢ OutOfMemory
 
 -- true was returned, and the place contains the event's sample
 abbrev pub PutsSample : Event → Bool → Sample → Type 0

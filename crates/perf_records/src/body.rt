@@ -14,7 +14,7 @@ use perf_base::{Endian, ReadResult};
 use perf_buffers::input::Input;
 use perf_reader::reader::Reader;
 use perf_sample_types::read_sample;
-use perf_sample_types::sample::{empty_sample, fill_sample};
+use perf_sample_types::sample::{Sample, fill_sample};
 use perf_types::{
     Aux, AuxOutputHwId, BpfEvent, CGroup, Comm, Exit, ITraceStart, KSymbol, Lost, LostSamples,
     Mmap, Mmap2, Namespaces, Read, SwitchCpuWide, TextPoke, Throttle,
@@ -136,7 +136,7 @@ fn visit_sample<'p, I: Input<'p>, E: Endian, V: Visitor<'p>>(
     ensures call { Call I.source E.order (GivesType V.gives metadata RecordType.Sample)
         reader.old (kinds result) reader.new }
 {
-    let mut content = empty_sample();
+    let mut content = Sample::default();
     read_sample!(fill_sample, content, reader =>
         visitor.visit_sample(content, metadata), drop(content))
 }

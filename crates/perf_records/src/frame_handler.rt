@@ -12,7 +12,8 @@ use perf_base::sys::perf_event_header;
 use perf_base::{Endian, ErrorKind, Kept, ParseConfig, ParseError, Refusal};
 
 /// A header without a whole frame after it: its `size` is below 8, or fewer bytes are left than it
-/// states.
+/// states. [`Frame::try_visit`] and [`Frame::try_sample_into`] also return it for a whole frame that
+/// is refused.
 #[derive(Copy, Clone, Debug)]
 pub struct BadFrame {
     pub(crate) header: perf_event_header,
@@ -50,7 +51,7 @@ impl BadFrame {
     }
 
     /// The kind of its refusal: [`ErrorKind::InvalidRecord`] if the size does not count the header,
-    /// [`ErrorKind::Eof`] if bytes are missing.
+    /// [`ErrorKind::Eof`] if bytes are missing, and otherwise that of [`Frame::record`].
     #[inline]
     pub fn kind(&self) -> ErrorKind
         ensures { result ≡ refusal_kind self.now.refusal }

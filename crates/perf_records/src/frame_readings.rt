@@ -6,7 +6,8 @@ ghost use Rattle.perf_base.specs.Refusals.{IsErrorOf, error_kinds};
 ghost use Rattle.perf_base.specs.declared.error.ParseError.{ParseError};
 ghost use Rattle.perf_buffers.specs.Prelude.{chunk_bytes, chunk_is_borrowed};
 ghost use Rattle.perf_records.specs.Answers.{split_after};
-ghost use Rattle.perf_records.specs.FrameReadings.{FrameGives, HasNoRoom, PutsSample, metadata_in};
+ghost use Rattle.perf_records.specs.FrameReadings.{FrameGives, FrameGivesOrBad, HasNoRoom, PutsSample};
+ghost use Rattle.perf_records.specs.FrameReadings.{TakesNoMemory, metadata_in};
 ghost use Rattle.perf_records.specs.RecordTypes.{type_of};
 ghost use Rattle.perf_records.specs.Prelude.{configuration_of, endian_of, IsRecordOf, NoRoomForId};
 ghost use Rattle.perf_records.specs.Prelude.{NeedsNoMemory};
@@ -16,6 +17,7 @@ ghost use Rattle.perf_sample_types.specs.SampleMemory.{HasNoLists};
 use crate::body_reader::{AsRecord, BodyReader, ByVisitor, IntoSample};
 use crate::frame::Frame;
 use crate::frame_end::frame_end;
+use crate::frame_handler::BadFrame;
 use crate::metadata::RecordMetadata;
 use crate::record::Record;
 use crate::record_type::RecordType;
@@ -36,26 +38,26 @@ fn refused<T>(refusal: Refusal) -> ParseResult<T>
 }
 
 impl<'c, 'p> Frame<'c, 'p> {
-    // Makes an output from the frame's body; a refusal becomes an error.
+    // Makes an output from the frame's body; a refusal becomes a bad frame.
     #[inline]
-    fn read_answer<S, E: Endian, M: BodyReader<'p, S>>(
+    fn read_or_bad<S, E: Endian, M: BodyReader<'p, S>>(
         &self,
         alloc: Global,
         config: &ParseConfig<E>,
         maker: M,
         state: &mut S,
-    ) -> ParseResult<M::Output>
-        ensures answer { M.reads self.now.header.type_ → FrameGives
+    ) -> Result<M::Output, BadFrame>
+        ensures answer { M.reads self.now.header.type_ → FrameGivesOrBad
             (λ e output. M.gives e state.old output state.new) self.now.header
             (configuration_of config.now) (E.order (endian_of config.now))
             (chunk_bytes self.now.rest) (chunk_is_borrowed self.now.rest) result }
         ensures memory { M.plain (under_misc self.now.header.misc (configuration_of config.now)) →
-            IsTrue (chunk_is_borrowed self.now.rest) → NeedsNoMemory (error_kinds result) }
+            IsTrue (chunk_is_borrowed self.now.rest) → TakesNoMemory result }
     {
         let (answer, _reads) = self.read(alloc, config, maker, state);
         match answer {
             Ok(output) => Ok(output),
-            Err(refusal) => refused(refusal),
+            Err(refusal) => Err(BadFrame::new(self.header(), refusal)),
         }
     }
 
@@ -110,7 +112,10 @@ impl<'c, 'p> Frame<'c, 'p> {
         ensures { FrameGives IsRecordOf self.now.header (configuration_of config.now)
             (E.order (endian_of config.now)) (chunk_bytes self.now.rest) (chunk_is_borrowed self.now.rest) result }
     {
-        self.read_answer(alloc, config, AsRecord, &mut ())
+        match self.read_or_bad(alloc, config, AsRecord, &mut ()) {
+            Ok(record) => Ok(record),
+            Err(bad) => refused(bad.refusal),
+        }
     }
 
     /// What a visitor makes of the frame's record and metadata. The refusals are those of
@@ -125,7 +130,25 @@ impl<'c, 'p> Frame<'c, 'p> {
         ensures { FrameGives V.gives self.now.header (configuration_of config.now)
             (E.order (endian_of config.now)) (chunk_bytes self.now.rest) (chunk_is_borrowed self.now.rest) result }
     {
-        self.read_answer(alloc, config, ByVisitor { visitor }, &mut ())
+        match self.try_visit(alloc, config, visitor) {
+            Ok(output) => Ok(output),
+            Err(bad) => refused(bad.refusal),
+        }
+    }
+
+    /// As [`Frame::visit`], but a refusal is a [`BadFrame`], which is small: an error of it is made
+    /// only if [`BadFrame::error`] is called. This is for callers that visit many frames.
+    #[inline]
+    pub fn try_visit<E: Endian, V: Visitor<'p>>(
+        &self,
+        alloc: Global,
+        config: &ParseConfig<E>,
+        visitor: V,
+    ) -> Result<V::Output, BadFrame>
+        ensures { FrameGivesOrBad V.gives self.now.header (configuration_of config.now)
+            (E.order (endian_of config.now)) (chunk_bytes self.now.rest) (chunk_is_borrowed self.now.rest) result }
+    {
+        self.read_or_bad(alloc, config, ByVisitor { visitor }, &mut ())
     }
 
     /// Reads a SAMPLE (`PERF_RECORD_SAMPLE`) into the place of an existing one, and returns `true`;
@@ -154,14 +177,37 @@ impl<'c, 'p> Frame<'c, 'p> {
         ensures memory { IsTrue (chunk_is_borrowed self.now.rest) →
             HasNoLists (configuration_of config.now) → NeedsNoMemory (error_kinds result) }
     {
+        match self.try_sample_into(alloc, config, sample) {
+            Ok(put) => Ok(put),
+            Err(bad) => refused(bad.refusal),
+        }
+    }
+
+    /// As [`Frame::sample_into`], but a refusal is a [`BadFrame`], as that of [`Frame::try_visit`].
+    #[inline]
+    pub fn try_sample_into<E: Endian>(
+        &self,
+        alloc: Global,
+        config: &ParseConfig<E>,
+        sample: &mut Sample<'p>,
+    ) -> Result<bool, BadFrame>
+        ensures sample { self.now.header.type_ ≡ 9 → FrameGivesOrBad
+            (λ e put. PutsSample e put sample.new) self.now.header (configuration_of config.now)
+            (E.order (endian_of config.now)) (chunk_bytes self.now.rest) (chunk_is_borrowed self.now.rest) result }
+        ensures other { (self.now.header.type_ ≡ 9 → ⊥) →
+            (result ≡ Ok false) × (sample.new ≡ sample.old) }
+        ensures empty { OnErr result (sample.new ≡ no_sample) }
+        ensures memory { IsTrue (chunk_is_borrowed self.now.rest) →
+            HasNoLists (configuration_of config.now) → TakesNoMemory result }
+    {
         if self.header().type_ != PERF_RECORD_SAMPLE {
             return Ok(false);
         }
-        match self.read_answer(alloc, config, IntoSample, sample) {
+        match self.read_or_bad(alloc, config, IntoSample, sample) {
             Ok(()) => Ok(true),
-            Err(error) => {
+            Err(bad) => {
                 clear_sample(sample);
-                Err(error)
+                Err(bad)
             }
         }
     }

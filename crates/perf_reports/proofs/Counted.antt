@@ -5,7 +5,7 @@ use Rattle.std.proofs.lemmas.Bool.{cases_lt, lt-ltb, le-ltb, le-leb}
 use Rattle.std.proofs.lemmas.List.{take_all, length-append, length-take, length-take-le, append-nil, take-take, take-map, append_assoc}
 use Rattle.std.proofs.lemmas.List.Sums.{sum_by-append}
 use Rattle.perf_base.specs.Errors.{kind_of}
-use Rattle.perf_base.specs.Refusals.{error_kinds}
+use Rattle.perf_base.specs.Refusals.{refusal_kind}
 use Rattle.perf_base.specs.Header.{header_of}
 use Rattle.perf_base.specs.Order.{Order}
 use Rattle.perf_base.specs.declared.error.ErrorKind.{ErrorKind}
@@ -31,8 +31,9 @@ use Rattle.perf_sample_types.specs.declared.sample.Sample.{Sample}
 use Rattle.perf_sample_types.proofs.LeastSamples.{short_sample}
 use Rattle.perf_base.specs.declared.refusal.Refusal.TheVariants as why
 use Rattle.perf_records.specs.Bodies.{body, body_of_type, unread}
-use Rattle.perf_records.specs.FrameReadings.{FrameGives, PutsSample, metadata_in}
+use Rattle.perf_records.specs.FrameReadings.{FrameGivesOrBad, PutsSample, metadata_in}
 use Rattle.perf_records.specs.Metadata.{MetadataValue, id_length}
+use Rattle.perf_records.specs.declared.frame_handler.BadFrame.{BadFrame}
 use Rattle.perf_records.specs.RecordTypes.{type_of}
 use Rattle.perf_records.specs.Answers.{FrameParts, parts_of, length_after, split_after, record_in, answer_after, answer_of_frame, answers}
 use Rattle.perf_records.specs.Frames.{frame_length, first_frames, frames, drop_frames}
@@ -46,7 +47,7 @@ use Rattle.perf_parser.specs.Runs.{EndsWith, MovesWithinFrame, RunInvariant, end
 use Rattle.perf_parser.specs.declared.runs.RunEnd.{RunEnd}
 use Rattle.perf_parser.proofs.FrameHandovers.{moved_by}
 use Rattle.perf_parser.proofs.Lists.{AreThere, there_fits, there_next, after_on, frames_fit}
-use Rattle.perf_reports.specs.Counting.{modulo_word, frame_sum, counts_of, plus, sight_header, sight_answer, counted_sight, IsRefused, RanOut, EndsBy, CountsSight, CountsRun, RefusesSight, SumsAnswer, Adds, record_sum, sample_sum, attribute_in}
+use Rattle.perf_reports.specs.Counting.{modulo_word, frame_sum, counts_of, plus, sight_header, sight_answer, counted_sight, IsRefused, RanOut, EndsBy, CountsSight, CountsRun, RefusesSight, SumsAnswer, Adds, record_sum, sample_sum, bad_kinds, attribute_in}
 use Rattle.perf_reports.specs.declared.counting.FrameCounter.{FrameCounter}
 use Rattle.perf_reports.specs.declared.counts.Counts.{Counts}
 
@@ -288,26 +289,26 @@ run_keeps old n count None e was now new none handed is p =
 -- ---- what is summed of a frame
 
 -- what a visit of a frame summed
-pub visited_sum : (h : perf_event_header) (c : Configuration) (o : Order) (bytes : List ℕ) (borrowed : Bool) (r : Result ℕ ParseError) →
-    FrameGives Adds h c o bytes borrowed r → SumsAnswer (answer_after c o h bytes) (error_kinds r)
+pub visited_sum : (h : perf_event_header) (c : Configuration) (o : Order) (bytes : List ℕ) (borrowed : Bool) (r : Result ℕ BadFrame) →
+    FrameGivesOrBad Adds h c o bytes borrowed r → SumsAnswer (answer_after c o h bytes) (bad_kinds r)
 visited_sum h c o bytes borrowed (Ok sum) v = (v.0, v.5, v.3)
-visited_sum h c o bytes borrowed (Err e) v = (v.0, v.2)
+visited_sum h c o bytes borrowed (Err x) v = (v.1, v.3)
 
 -- the sum of a sample that was read into a place
-pub placed_sum : (h : perf_event_header) (c : Configuration) (o : Order) (bytes : List ℕ) (borrowed : Bool) (r : Result Bool ParseError) (put : Bool) (now : Sample) (sum : ℕ) →
-    FrameGives (λ e x. PutsSample e x now) h c o bytes borrowed r → r ≡ Ok put → sum ≡ modulo_word (sample_sum (getters_of (sample_value now))) →
+pub placed_sum : (h : perf_event_header) (c : Configuration) (o : Order) (bytes : List ℕ) (borrowed : Bool) (r : Result Bool BadFrame) (put : Bool) (now : Sample) (sum : ℕ) →
+    FrameGivesOrBad (λ e x. PutsSample e x now) h c o bytes borrowed r → r ≡ Ok put → sum ≡ modulo_word (sample_sum (getters_of (sample_value now))) →
     SumsAnswer (answer_after c o h bytes) (Ok sum)
 placed_sum h c o bytes borrowed r put now sum gives is same =
-    let v = subst (λ (q : Result Bool ParseError). FrameGives (λ e x. PutsSample e x now) h c o bytes borrowed q) is gives in
+    let v = subst (λ (q : Result Bool BadFrame). FrameGivesOrBad (λ e x. PutsSample e x now) h c o bytes borrowed q) is gives in
     let value : sample_is (sample_value now) ≡ v.0 = v.3.1.0 in
     (v.0, v.5, same ∙ ap (λ r. modulo_word (record_sum r)) value)
 
 -- a sample that is refused sums nothing
-pub placed_refused : (h : perf_event_header) (c : Configuration) (o : Order) (bytes : List ℕ) (borrowed : Bool) (r : Result Bool ParseError) (e : ParseError) (now : Sample) →
-    FrameGives (λ e x. PutsSample e x now) h c o bytes borrowed r → r ≡ Err e → SumsAnswer (answer_after c o h bytes) (Err (kind_of e))
-placed_refused h c o bytes borrowed r e now gives is =
-    let v = subst (λ (q : Result Bool ParseError). FrameGives (λ e x. PutsSample e x now) h c o bytes borrowed q) is gives in
-    (v.0, v.2)
+pub placed_refused : (h : perf_event_header) (c : Configuration) (o : Order) (bytes : List ℕ) (borrowed : Bool) (r : Result Bool BadFrame) (x : BadFrame) (now : Sample) →
+    FrameGivesOrBad (λ e put. PutsSample e put now) h c o bytes borrowed r → r ≡ Err x → SumsAnswer (answer_after c o h bytes) (Err (refusal_kind x.refusal))
+placed_refused h c o bytes borrowed r x now gives is =
+    let v = subst (λ (q : Result Bool BadFrame). FrameGivesOrBad (λ e put. PutsSample e put now) h c o bytes borrowed q) is gives in
+    (v.1, v.3)
 
 -- a type that the kernel does not have: its body is all bytes, whatever they are
 unread_says : (o : Order) (ty : ℕ) (bytes : List ℕ) → layout o (unread ty) bytes ≡ Ok (value o bytes 0 (unread ty))

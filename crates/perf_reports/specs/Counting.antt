@@ -21,6 +21,7 @@ use Rattle.perf_types.specs.Comm.{CommValue}
 use Rattle.perf_reader.specs.Reading.{of_layout}
 use Rattle.perf_records.specs.Answers.{answer_after, answers}
 use Rattle.perf_records.specs.Gives.{Event}
+use Rattle.perf_records.specs.declared.frame_handler.BadFrame.{BadFrame}
 use Rattle.perf_records.specs.Sights.{Sight, whole, bad}
 use Rattle.perf_parser.specs.Runs.{EndsWith}
 use Rattle.perf_parser.specs.declared.runs.RunEnd.{RunEnd}
@@ -158,6 +159,11 @@ RefusesSight kind was false now = (now.counts ≡ was.counts) × RanOut now.erro
 abbrev pub SumsAnswer : Result RecordValue ErrorKind → Result ℕ ErrorKind → Type 0
 SumsAnswer answer (Ok sum) = (value : RecordValue) × (answer ≡ Ok value) × (sum ≡ modulo_word (record_sum value))
 SumsAnswer answer (Err kind) = (IsTrue (of_layout kind) → answer ≡ Err kind) × (kind ≢ External)
+
+-- what is read of a frame, or the kind of its refusal
+abbrev pub bad_kinds : {A : Type 0} → Result A BadFrame → Result A ErrorKind
+bad_kinds (Ok x) = Ok x
+bad_kinds (Err x) = Err (refusal_kind x.refusal)
 
 -- ---- what is counted of a stream
 

@@ -3,18 +3,17 @@
 ghost use Rattle.std.specs.Prelude.{◌≡◌, ◌≢◌, [], None, true};
 ghost use Rattle.perf_base.specs.Configured.{configuration_of, endian_of};
 ghost use Rattle.perf_base.specs.Errors.{kind_of};
-ghost use Rattle.perf_base.specs.Refusals.{error_kinds};
 ghost use Rattle.perf_buffers.specs.Prelude.{chunk_bytes};
 ghost use Rattle.perf_records.specs.Answers.{answer_after};
 ghost use Rattle.perf_records.specs.RecordTypes.{type_of};
 ghost use Rattle.perf_reports.specs.Counting.{counts_of, CountsSight, EndsBy, IsRefused, RefusesSight};
-ghost use Rattle.perf_reports.specs.Counting.{SumsAnswer};
+ghost use Rattle.perf_reports.specs.Counting.{SumsAnswer, bad_kinds};
 
 use crate::counts::Counts;
 use crate::record_sums::SumVisitor;
 use crate::sums::sample_sum;
 use perf_event_data::endian::Endian;
-use perf_event_data::parse::{ErrorKind, ParseConfig, ParseError, ParseResult};
+use perf_event_data::parse::{ErrorKind, ParseConfig, ParseError};
 use perf_event_data::sys::PERF_RECORD_SAMPLE;
 use perf_event_data::{BadFrame, Frame, FrameHandler, RunEnd, Sample};
 use std::alloc::Global;
@@ -89,19 +88,19 @@ fn is_short_sample<E: Endian>(config: &ParseConfig<E>, frame: &Frame<'_, '_>) ->
     frame.header().type_ == PERF_RECORD_SAMPLE && frame.rest().len() < Sample::least_len(config)
 }
 
-// What a call returned, with no more of an error than its kind.
+// What a call returned, with no more of a refusal than its kind.
 #[inline]
-fn with_kind<T: Copy>(answer: &ParseResult<T>) -> Result<T, ErrorKind>
-    ensures { result ≡ error_kinds answer.now }
+fn with_kind(answer: Result<u64, BadFrame>) -> Result<u64, ErrorKind>
+    ensures { result ≡ bad_kinds answer }
 {
     match answer {
-        Ok(value) => Ok(*value),
-        Err(error) => Err(error.kind()),
+        Ok(sum) => Ok(sum),
+        Err(bad) => Err(bad.kind()),
     }
 }
 
 // What the record of a frame adds to the checksum, or the kind with which it is refused: an error is
-// large, so none is passed on. A sample whose bytes live as long as the input is read into a place
+// large, so none is made. A sample whose bytes live as long as the input is read into a place
 // that is kept for the next; nothing is kept of any other frame, so that no byte string is copied. A
 // record of a type that the kernel does not have adds nothing, and is not read.
 #[inline]
@@ -136,8 +135,7 @@ fn other_sum<E: Endian>(
     if frame.kind().is_none() {
         return unknown_sum(alloc, config, frame);
     }
-    let answer = frame.borrowed().visit(alloc, config, SumVisitor);
-    with_kind(&answer)
+    with_kind(frame.borrowed().try_visit(alloc, config, SumVisitor))
 }
 
 // What a sample adds that is read into a place.
@@ -152,9 +150,9 @@ fn placed_sum<'p, E: Endian>(
     ensures { SumsAnswer (answer_after (configuration_of config.now)
         (E.order (endian_of config.now)) frame.now.header (chunk_bytes frame.now.rest)) result }
 {
-    match &frame.sample_into(alloc, config, place) {
+    match frame.try_sample_into(alloc, config, place) {
         Ok(_) => Ok(sample_sum(place)),
-        Err(error) => Err(error.kind()),
+        Err(bad) => Err(bad.kind()),
     }
 }
 

@@ -1,6 +1,6 @@
 //! What records add to the checksum, modulo 2^64.
 
-ghost use Rattle.std.specs.Prelude.{◌≡◌, sum};
+ghost use Rattle.std.specs.Prelude.{◌≡◌, ◌∷◌, [], sum};
 ghost use Rattle.perf_records.specs.Records.{comm_value, mmap_value, mmap2_value};
 ghost use Rattle.perf_reports.specs.Counting.{modulo_word, mmap_sum, mmap2_sum, comm_sum, task_sum};
 ghost use Rattle.perf_reports.specs.Counting.{lost_sum, sample_sum};
@@ -9,30 +9,47 @@ ghost use Rattle.perf_sample_types.specs.SampleGroups.{sample_value};
 
 use perf_event_data::{Comm, Exit, Lost, Mmap, Mmap2, Sample};
 
+// The sum of a mapping's numbers and the length of its path.
+#[inline]
+fn mapping_sum(pid: u32, tid: u32, addr: u64, len: u64, pgoff: u64, path_len: usize) -> u64
+    ensures { result ≡ modulo_word (sum (pid ∷ tid ∷ addr ∷ len ∷ pgoff ∷ path_len ∷ [])) }
+{
+    wrapping_sum(&[
+        u64::from(pid),
+        u64::from(tid),
+        addr,
+        len,
+        pgoff,
+        path_len as u64,
+    ])
+}
+
 pub(crate) fn mmap_sum(mapped: &Mmap) -> u64
     ensures { result ≡ modulo_word (mmap_sum (mmap_value mapped.now)) }
 {
-    wrapping_sum(&[
-        u64::from(mapped.pid),
-        u64::from(mapped.tid),
+    let path_len = mapped.filename.len();
+    mapping_sum(
+        mapped.pid,
+        mapped.tid,
         mapped.addr,
         mapped.len,
         mapped.pgoff,
-        mapped.filename.len() as u64,
-    ])
+        path_len,
+    )
 }
 
 pub(crate) fn mmap2_sum(mapped: &Mmap2) -> u64
     ensures { result ≡ modulo_word (mmap2_sum (mmap2_value mapped.now)) }
 {
-    wrapping_sum(&[
-        u64::from(mapped.pid),
-        u64::from(mapped.tid),
+    let path_len = mapped.filename.len();
+    mapping_sum(
+        mapped.pid,
+        mapped.tid,
         mapped.addr,
         mapped.len,
         mapped.pgoff,
-        mapped.filename.len() as u64,
-    ])
+        path_len,
+    )
 }
 
 pub(crate) fn comm_sum(comm: &Comm) -> u64

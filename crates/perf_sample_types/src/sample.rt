@@ -372,7 +372,13 @@ impl Default for Sample<'_> {
 
     #[inline(always)]
     fn default() -> Self {
-        empty_sample()
+        Sample {
+            moment: Moment::none(),
+            counts: Counts::none(),
+            state: State::none(),
+            costs: Costs::none(),
+            memory: Memory::none(),
+        }
     }
 }
 
@@ -403,22 +409,8 @@ impl HasTransition for Sample<'_> {
 impl<'p, I: Input<'p>> ReadFrom<'p, I> for Sample<'p> {
     #[inline]
     fn read<E: Endian>(reader: &mut Reader<I, E>) -> ReadResult<Self> {
-        let mut sample = empty_sample();
+        let mut sample = Sample::default();
         read_sample!(fill_sample, sample, reader => sample, drop(sample))
-    }
-}
-
-/// A sample without fields.
-#[inline(always)]
-pub fn empty_sample<'p>() -> Sample<'p>
-    ensures { result ≡ no_sample }
-{
-    Sample {
-        moment: Moment::none(),
-        counts: Counts::none(),
-        state: State::none(),
-        costs: Costs::none(),
-        memory: Memory::none(),
     }
 }
 

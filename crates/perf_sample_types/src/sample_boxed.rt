@@ -12,7 +12,7 @@ ghost use Rattle.perf_sample_types.specs.Prelude as samples;
 ghost use Rattle.perf_sample_types.specs.Prelude.{Call, ReadsBorrowed, ReadsTable, kinds};
 
 use crate::read_sample;
-use crate::sample::{Sample, empty_sample, fill_fields};
+use crate::sample::{Sample, fill_fields};
 use crate::sample_groups::{Costs, Counts, Memory, Moment, State};
 use perf_base::{Endian, ReadResult, Refusal};
 use perf_buffers::input::Input;
@@ -123,7 +123,7 @@ pub fn read_boxed_sample<'p, I: Input<'p>, E: Endian>(
     if reader.has_bytes(Sample::least_len(reader.config())) == Some(false) {
         return Err(refuse_sample(reader));
     }
-    let mut content = match Box::new(reader.alloc(), empty_sample()) {
+    let mut content = match Box::new(reader.alloc(), Sample::default()) {
         Ok(content) => content,
         Err(error) => {
             drop(error);

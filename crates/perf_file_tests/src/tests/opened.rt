@@ -8,7 +8,7 @@ use std::process::Abort;
 
 // The lines of its frames: the offset, the type or the refusal, the length of the payload, the
 // owner.
-fn frame_lines(alloc: Global, recording: &Recording<'_>) -> Result<String, AllocError> {
+pub fn frame_lines(alloc: Global, recording: &Recording<'_>) -> Result<String, AllocError> {
     let mut text = String::new(alloc);
     for found in recording.frames() {
         let ty = match &found.frame {

@@ -1,6 +1,7 @@
 //! What `perf record` writes to a pipe.
 
 use crate::tests::files::little;
+use crate::tests::opened::frame_lines;
 use perf_base::ErrorKind;
 use perf_file::{EscapedBytes, OpenError, Recording};
 use std::alloc::{AllocError, Global};
@@ -77,8 +78,8 @@ const PIPE: [u64; WORDS] = [
     20,
 ];
 
-// The name of the machine, the events by their names, and the frames: the offset, the type or 0 for
-// an unfinished one, the length of the payload, and the owner.
+// The name of the machine, the events by their names, and the frames: the offset, the type, the
+// length of the payload, and the owner.
 fn lines_of(alloc: Global, recording: &Recording<'_>) -> Result<String, AllocError> {
     let mut text = String::new(alloc);
     match recording.hostname() {
@@ -88,20 +89,7 @@ fn lines_of(alloc: Global, recording: &Recording<'_>) -> Result<String, AllocErr
     for event in recording.events() {
         write!(text, "{} {}\n", event.name(), event.ids().len())?;
     }
-    for found in recording.frames() {
-        let ty = match &found.frame {
-            Ok(frame) => frame.header().type_,
-            Err(_) => 0,
-        };
-        let line = format!(in alloc;
-            "{} {} {} {:?}\n",
-            found.at,
-            ty,
-            found.payload.len(),
-            found.owner
-        )?;
-        text.push_str(&line)?;
-    }
+    text.push_str(&frame_lines(alloc, recording)?)?;
     for entry in &recording.in_order(alloc)? {
         if entry.time > 0 {
             let line = format!(in alloc; "{} {}\n", entry.time, entry.at)?;

@@ -68,6 +68,8 @@ enum Part {
     Readings,
     // Its sample, read into the place of an older one.
     Placed,
+    // The same, and the record that a visit makes, where a refusal is a bad frame.
+    Tried,
 }
 
 // The text of the first frame of some bytes.
@@ -91,7 +93,11 @@ fn write_part(
     match part {
         Part::Numbers => write_numbers(text, frame),
         Part::Readings => write_readings(text, alloc, frame),
-        Part::Placed => write_sample_in_place(text, alloc, frame),
+        Part::Placed => write_sample_in_place(text, alloc, frame, false),
+        Part::Tried => {
+            write_sample_in_place(text, alloc, frame, true)?;
+            write_visit(text, alloc, frame)
+        }
     }
 }
 
@@ -148,9 +154,10 @@ fn write_sample_in_place<'p>(
     text: &mut String,
     alloc: Global,
     frame: &Frame<'_, 'p>,
+    is_tried: bool,
 ) -> Result<(), AllocError> {
     let mut place: Sample<'p> = older_sample();
-    let is_written = write_sample_into(text, alloc, frame, &mut place);
+    let is_written = write_sample_into(text, alloc, frame, &mut place, is_tried);
     drop(place);
     is_written
 }
@@ -160,12 +167,44 @@ fn write_sample_into<'p>(
     alloc: Global,
     frame: &Frame<'_, 'p>,
     place: &mut Sample<'p>,
+    is_tried: bool,
 ) -> Result<(), AllocError> {
-    match frame.sample_into(alloc, &config(), place) {
+    match read_into(alloc, frame, place, is_tried) {
         Ok(is_put) => write!(text, "{is_put}")?,
         Err(error) => write_error(text, &error)?,
     }
     write_fields(text, place)
+}
+
+// Writes what a visit makes, or the bad frame.
+fn write_visit(text: &mut String, alloc: Global, frame: &Frame<'_, '_>) -> Result<(), AllocError> {
+    text.push_str("; ")?;
+    match frame.try_visit(alloc, &config(), RecordVisitor::new(alloc)) {
+        Ok(record) => write_debug_record(text, record),
+        Err(bad) => write_bad(text, bad),
+    }
+}
+
+// Writes the size, the kind and the error.
+fn write_bad(text: &mut String, bad: BadFrame) -> Result<(), AllocError> {
+    write!(text, "{} {:?} ", bad.header().size, bad.kind())?;
+    write_error(text, &bad.error())
+}
+
+// Reads a sample into a place, by the call whose refusal is a bad frame or by the other.
+fn read_into<'p>(
+    alloc: Global,
+    frame: &Frame<'_, 'p>,
+    place: &mut Sample<'p>,
+    is_tried: bool,
+) -> ParseResult<bool> {
+    if !is_tried {
+        return frame.sample_into(alloc, &config(), place);
+    }
+    match frame.try_sample_into(alloc, &config(), place) {
+        Ok(is_put) => Ok(is_put),
+        Err(bad) => Err(bad.error()),
+    }
 }
 
 // A sample with the address 1, and no other field.
@@ -273,6 +312,25 @@ fn a_sample_takes_the_place_of_another(rt: HostRuntime) {
     ];
     for (bytes, want) in parts {
         check_text(&rt, text_of_first(rt.alloc(), bytes, Part::Placed), want);
+    }
+}
+
+#[test]
+fn a_refused_frame_is_a_bad_frame(rt: HostRuntime) {
+    let parts = [
+        (SHORT, "Eof (None, None, None); 9 Eof Eof"),
+        (
+            NO_ROOM,
+            "false (Some(1), None, None); 24 InvalidRecord InvalidRecord",
+        ),
+        (
+            NAMED,
+            "false (Some(1), None, None); \
+            Comm(Comm { pid: 1, tid: 2, comm: Borrowed([115, 104]) }); ",
+        ),
+    ];
+    for (bytes, want) in parts {
+        check_text(&rt, text_of_first(rt.alloc(), bytes, Part::Tried), want);
     }
 }
 

@@ -19,6 +19,6 @@ returns g c =
     let order : Order = g.E.Endian.order (endian_of c.args.config.now) in
     let sum : Result ℕ ErrorKind = c.with_kind.result in
     let summed = subst (λ (r : Result ℕ ErrorKind). SumsAnswer (answer_after settings order b.header (chunk_bytes b.rest)) r) (sym c.with_kind.ensures)
-    (visited_sum b.header settings order (chunk_bytes b.rest) (chunk_is_borrowed b.rest) c.visit-answer.result c.visit-answer.ensures) in
+    (visited_sum b.header settings order (chunk_bytes b.rest) (chunk_is_borrowed b.rest) c.try_visit.result c.try_visit.ensures) in
     subst (λ (h : perf_event_header). SumsAnswer (answer_after settings order h (chunk_bytes f.rest)) sum) c.borrowed.ensures.header
     (subst (λ (bytes : List ℕ). SumsAnswer (answer_after settings order b.header bytes) sum) c.borrowed.ensures.rest summed)
