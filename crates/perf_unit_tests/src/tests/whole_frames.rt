@@ -180,9 +180,10 @@ fn write_sample_into<'p>(
 fn write_visit(text: &mut String, alloc: Global, frame: &Frame<'_, '_>) -> Result<(), AllocError> {
     text.push_str("; ")?;
     match frame.try_visit(alloc, &config(), RecordVisitor::new(alloc)) {
-        Ok(record) => write_debug_record(text, record),
-        Err(bad) => write_bad(text, bad),
-    }
+        Ok(record) => write_debug_record(text, record)?,
+        Err(bad) => return write_bad(text, bad),
+    };
+    Ok(())
 }
 
 // Writes the size, the kind and the error.
