@@ -1,1 +1,3 @@
 pub mod PlainTexts
+pub mod NamesAlike
+pub mod Moving

@@ -1,10 +1,11 @@
 //! Folds a recording.
 
-ghost use Rattle.std.specs.Prelude.{◌≡◌, IfOk, List, OnOk};
+ghost use Rattle.std.specs.Prelude.{◌≡◌, [], IfOk, List, OnOk};
+ghost use Rattle.perf_base.specs.Dynamic.{order_of};
 ghost use Rattle.perf_file.specs.Views.{view};
 ghost use Rattle.perf_flame.specs.FoldedLines.{folded_lines};
 ghost use Rattle.perf_history.specs.declared.changes.Change.{Change};
-ghost use Rattle.perf_walk.specs.Moments.{known_after};
+ghost use Rattle.perf_walk.specs.Moments.{moments};
 ghost use Rattle.perf_walk.specs.Plain.{IsPast};
 ghost use Rattle.perf_fold.specs.EventNames.{own_names};
 ghost use Rattle.perf_fold.specs.Folds as folds;
@@ -56,13 +57,24 @@ struct Folder {
 }
 
 impl Folder {
-    ghost use Rattle.std.specs.Prelude.{ℕ, Some, option_map};
-    ghost use Rattle.perf_base.specs.Dynamic.{order_of};
-    ghost use Rattle.perf_base.specs.Header.{header_of};
     ghost use Rattle.perf_fold.specs.EventNames.{texts_of};
-    ghost use Rattle.perf_walk.specs.Moments.{Moment};
+    ghost use Rattle.perf_walk.specs.Moments.{Moment, known_after, moment_at};
     ghost use Rattle.perf_walk.specs.Steps.{IsFrameOf};
-    ghost use Rattle.perf_file.specs.Opened.{File};
+
+    // No lines yet.
+    fn new(alloc: Global, how: Choice, names: Vec<String>) -> Folder
+        ensures how { result.how ≡ how }
+        ensures names { result.names ≡ names }
+        ensures lines { folded_lines result.folded ≡ [] }
+    {
+        Folder {
+            how,
+            names,
+            stacks: Stacks::new(alloc),
+            calls: Vec::new(alloc),
+            folded: Folded::new(alloc),
+        }
+    }
 
     // Adds the sample of a frame that was found, if it is one.
     fn add(&mut self, walk: &Walk<'_, '_>, found: &Found<'_>) -> Result<(), AllocError>
@@ -95,7 +107,16 @@ impl Folder {
     }
 
     // Goes on to the frame of an entry, and adds it.
-    fn go_on(&mut self, walk: &mut Walk<'_, '_>, entry: &Entry) -> Result<(), AllocError> {
+    fn go_on(&mut self, walk: &mut Walk<'_, '_>, entry: &Entry) -> Result<(), AllocError>
+        ensures gone { (known : List Change) → IsPast walk.old.history known →
+            OnOk result (IsPast walk.new.history (known_after (view walk.old.recording.now) entry.now known)
+            × (folded_lines self.new.folded ≡ folds.add_if self.old.how (texts_of self.old.names.items)
+            (order_of (view walk.old.recording.now).order) (folded_lines self.old.folded)
+            (moment_at (view walk.old.recording.now) entry.now known))) }
+        ensures how { self.new.how ≡ self.old.how }
+        ensures names { self.new.names ≡ self.old.names }
+        ensures recording { walk.new.recording.now ≡ walk.old.recording.now }
+    {
         match walk.step(entry)? {
             Some(found) => self.add(walk, &found),
             None => Ok(()),
@@ -123,15 +144,13 @@ fn fold_entries(
     recording: &Recording<'_>,
     how: Choice,
     entries: &[Entry],
-) -> Result<Folded, AllocError> {
+) -> Result<Folded, AllocError>
+    ensures { IfOk result (λ folded. folded_lines folded ≡ folds.add_moments how
+        (own_names recording.now.events.items) (order_of (view recording.now).order) []
+        (moments (view recording.now) entries.now [])) }
+{
     let mut walk = Walk::new(alloc, recording);
-    let mut folder = Folder {
-        how,
-        names: names_of(alloc, recording)?,
-        stacks: Stacks::new(alloc),
-        calls: Vec::new(alloc),
-        folded: Folded::new(alloc),
-    };
+    let mut folder = Folder::new(alloc, how, names_of(alloc, recording)?);
     for entry in entries {
         folder.go_on(&mut walk, entry)?;
     }

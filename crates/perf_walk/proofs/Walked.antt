@@ -17,7 +17,7 @@ use Rattle.perf_records.proofs.Headers.{header_alone}
 use Rattle.perf_history.specs.declared.changes.Change.{Change}
 use Rattle.perf_history.specs.declared.histories.History.{History}
 use Rattle.perf_walk.specs.Changes.{change_of}
-use Rattle.perf_walk.specs.Moments.{frame_at, moment, moment_at, known_after, event_of}
+use Rattle.perf_walk.specs.Moments.{Moment, frame_at, moment, moment_at, known_after, event_of}
 use Rattle.perf_walk.specs.Plain.{IsPast}
 use Rattle.perf_walk.specs.Steps.{Finds, IsFrameOf}
 use Rattle.perf_walk.specs.declared.walk.Found.{Found}
@@ -35,18 +35,27 @@ frame_read f e c o left frame flat configured there order is cut =
     ∙ ap (λ p. Some (c, first_frame p left)) (sym order) ∙ ap (λ b. Some (c, b)) (sym whole) in
     (c, found, subst (λ p. IsFlat c p frame flat) order (subst (λ b. IsFlat c o b flat) (sym whole) is))
 
+-- what is known after a moment, or without one
+abbrev known_if : (older : List Change) → Option Moment → List Change
+known_if older m = elim m [ Some m ↦ m.known | None ↦ older ]
+
 -- a step to a frame
 pub stepped : (f : File) (e : Entry) (c : Configuration) (found : Found) (flat : FlatFrame) (history : History) (older : List Change) (change : Option Change) → frame_at f e ≡ Some (c, found.bytes.now)
     → IsFlat c (order_of f.order) found.bytes.now flat → found.event ≡ event_of e.owner → change ≡ change_of c (order_of f.order) found.bytes.now → IsPast history (cons_option change older)
     → Finds f (moment_at f e older) (Some found) flat × IsPast history (known_after f e older)
 stepped f e c found flat history older change at is event states past =
-    let here : moment_at f e older ≡ Some (moment f e.owner c found.bytes.now older) = ap (option_map (λ (found : Configuration × List ℕ). moment f e.owner found.0 found.1 older)) at in
-    let now : IsPast history (cons_option (change_of c (order_of f.order) found.bytes.now) older) = subst (λ x. IsPast history (cons_option x older)) states past in
-    rw here (record { bytes = refl; event = event; states = is }, now)
+    let m : Moment = moment f e.owner c found.bytes.now older in
+    let here : moment_at f e older ≡ Some m = ap (option_map (λ (found : Configuration × List ℕ). moment f e.owner found.0 found.1 older)) at in
+    let after : known_after f e older ≡ cons_option (change_of c (order_of f.order) found.bytes.now) older = ap (known_if older) here in
+    let now : IsPast history (cons_option (change_of c (order_of f.order) found.bytes.now) older) = subst (λ x. IsPast history (cons_option x older)) states past in (
+      subst (λ x. Finds f x (Some found) flat) (sym here) (record { bytes = refl; event = event; states = is }),
+      subst (IsPast history) (sym after) now,
+    )
 
 -- no step
 pub stayed : (f : File) (e : Entry) (flat : FlatFrame) (history : History) (older : List Change) → frame_at f e ≡ None → IsPast history older
     → Finds f (moment_at f e older) None flat × IsPast history (known_after f e older)
 stayed f e flat history older none past =
     let here : moment_at f e older ≡ None = ap (option_map (λ (found : Configuration × List ℕ). moment f e.owner found.0 found.1 older)) none in
-    rw here (tt, past)
+    let after : known_after f e older ≡ older = ap (known_if older) here in
+    (subst (λ x. Finds f x None flat) (sym here) tt, subst (IsPast history) (sym after) past)

@@ -37,4 +37,4 @@ returns-in-17 c = λ config o is.
     config o c.args.bytes.now c.args.frame.now is c.in-17.is (plain (change.Symbol c.symbol_in.result)) (λ r has. c.symbol_in.ensures r has)
 
 pub returns-in_default : goal.returns-in_default
-returns-in_default c = λ config o is. let h = c.in_default in ?
+returns-in_default c = λ config o is. let h = c.in_default.in_default-own in ?
