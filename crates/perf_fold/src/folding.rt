@@ -57,7 +57,12 @@ struct Folder {
 }
 
 impl Folder {
+    ghost use Rattle.std.specs.Prelude.{Some, reverse};
+    ghost use Rattle.perf_flame.specs.Lines.{add_count};
     ghost use Rattle.perf_fold.specs.EventNames.{texts_of};
+    ghost use Rattle.perf_fold.specs.SampleStacks.{sample_calls, stack_text};
+    ghost use Rattle.perf_sample_types.specs.Sample.{SampleValue};
+    ghost use Rattle.perf_walk.specs.Samples.{sample_of, sample_view};
     ghost use Rattle.perf_walk.specs.Moments.{Moment, known_after, moment_at};
     ghost use Rattle.perf_walk.specs.Steps.{IsFrameOf};
 
@@ -76,6 +81,41 @@ impl Folder {
         }
     }
 
+    // Adds a sample, that of a frame that was found.
+    fn add_sample(
+        &mut self,
+        walk: &Walk<'_, '_>,
+        found: &Found<'_>,
+        sample: &Sample,
+    ) -> Result<(), AllocError>
+        ensures added { (m : Moment) (s : SampleValue) →
+            IsFrameOf (view walk.now.recording.now) m found.now walk.now.frame →
+            IsPast walk.now.history m.known →
+            sample_of m.config (order_of (view walk.now.recording.now).order) m.frame ≡ Some s →
+            sample.now ≡ sample_view walk.now.frame.misc s →
+            OnOk result (folded_lines self.new.folded ≡ add_count (folded_lines self.old.folded)
+            (stack_text self.old.how.frames (texts_of self.old.names.items) m.event m.known sample.now
+            (reverse (sample_calls walk.now.frame.misc s)))
+            (folds.weight_of self.old.how.weight sample.now)) }
+        ensures how { self.new.how ≡ self.old.how }
+        ensures names { self.new.names ≡ self.old.names }
+    {
+        let order = walk.recording().order();
+        put_calls(&mut self.calls, order, found.bytes, walk.frame(), sample)?;
+        let frames = self.how.frames;
+        put_stack(
+            &mut self.stacks,
+            walk,
+            &self.names,
+            found.event,
+            frames,
+            sample,
+            &self.calls,
+        )?;
+        self.folded
+            .add(self.stacks.text(), weight_of(self.how.weight, sample))
+    }
+
     // Adds the sample of a frame that was found, if it is one.
     fn add(&mut self, walk: &Walk<'_, '_>, found: &Found<'_>) -> Result<(), AllocError>
         ensures added { (m : Moment) → IsFrameOf (view walk.now.recording.now) m found.now walk.now.frame →
@@ -86,24 +126,10 @@ impl Folder {
         ensures how { self.new.how ≡ self.old.how }
         ensures names { self.new.names ≡ self.old.names }
     {
-        let frame = walk.frame();
-        let Some(sample) = sample_in(frame) else {
-            return Ok(());
-        };
-        let order = walk.recording().order();
-        put_calls(&mut self.calls, order, found.bytes, frame, &sample)?;
-        let frames = self.how.frames;
-        put_stack(
-            &mut self.stacks,
-            walk,
-            &self.names,
-            found.event,
-            frames,
-            &sample,
-            &self.calls,
-        )?;
-        self.folded
-            .add(self.stacks.text(), weight_of(self.how.weight, &sample))
+        match sample_in(walk.frame()) {
+            Some(sample) => self.add_sample(walk, found, &sample),
+            None => Ok(()),
+        }
     }
 
     // Goes on to the frame of an entry, and adds it.
