@@ -1,0 +1,14 @@
+//! The frames of a recording in turn, each with what is known of threads and memory by then.
+#![tactic(auto)]
+
+mod calls;
+mod changing;
+mod parts;
+mod sampling;
+mod walk;
+
+pub use calls::{Call, push_calls, push_chain};
+pub use changing::change_in;
+pub use parts::bytes_at;
+pub use sampling::{Sample, sample_in};
+pub use walk::{Found, Walk};
