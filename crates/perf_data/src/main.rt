@@ -74,6 +74,9 @@ fn program<'a>(alloc: Global) -> Result<Command<'a>, AllocError> {
         .about("Prints a line for each frame")
         .arg(order)?
         .arg(file_word(alloc))?;
+    let summary = Command::new(alloc, "summary")
+        .about("Prints what is counted: by event, by type of record, and by task")
+        .arg(file_word(alloc))?;
     Command::new(alloc, "perf_data")
         .about("Prints what is inside a file of `perf record`.")
         .after_help(STATUSES)
@@ -81,6 +84,7 @@ fn program<'a>(alloc: Global) -> Result<Command<'a>, AllocError> {
         .disable_help_subcommand(true)
         .subcommand(events)?
         .subcommand(dump)?
+        .subcommand(summary)?
         .subcommand(folding::fold_words(alloc)?)?
         .subcommand(folding::flame_words(alloc)?)
 }
@@ -133,7 +137,11 @@ fn show_file(rt: &HostRuntime, command: &str, words: &ArgMatches<'_>) -> io::Res
     let bytes = bytes_of(rt, path)?;
     note_progress(rt, path, bytes.len())?;
     let mut output = rt.stdout();
-    let ended = run(rt.alloc(), &bytes, &mut output, shown(command, words));
+    let ended = if command == "summary" {
+        perf_summary::run::run(rt.alloc(), &bytes, &mut output)
+    } else {
+        run(rt.alloc(), &bytes, &mut output, shown(command, words))
+    };
     report(rt, path, &ended)?;
     Ok(status_after(&ended))
 }

@@ -1,0 +1,5 @@
+pub mod Contents
+pub mod Counts
+pub mod TypeNames
+pub mod SummaryText
+pub mod Shown
