@@ -1,5 +1,5 @@
 -- What is counted of the frames of a file.
-use Rattle.std.specs.Prelude.{◌≡◌, ℕ, ◌+◌, ◌%◌, ◌^◌, ◌<◌, ◌==◌, Bool, false, List, length, map, min, max, sum_by, count_by, slice_index_or, nat_lt, nat_le, is_some, Option}
+use Rattle.std.specs.Prelude.{◌≡◌, ℕ, ◌%◌, ◌^◌, ◌<◌, ◌==◌, Bool, false, List, length, map, min, max, sum_by, count_by, slice_index_or, nat_lt, nat_le, is_some}
 use Rattle.std.specs.List.{filter, reduce}
 use Rattle.perf_base.specs.Attribute.{or_zero}
 use Rattle.perf_file.specs.Entries.{time_of}
@@ -7,7 +7,7 @@ use Rattle.perf_file.specs.Opened.{File}
 use Rattle.perf_file.specs.Pieces.{Piece, header_seen}
 use Rattle.perf_file.specs.declared.owning.Owner.{Owner}
 use Rattle.perf_file.specs.declared.owning.Owner.TheVariants as owner
-use Rattle.perf_summary.specs.Contents.{record_of, period_in, lost_in, is_refused}
+use Rattle.perf_summary.specs.Contents.{period_of, lost_of, is_refused}
 use Rattle.perf_summary.specs.declared.counts.Counts.{Counts}
 use Rattle.perf_summary.specs.declared.counts.EventCount.{EventCount}
 
@@ -26,7 +26,7 @@ of_event n pieces = filter (λ (p : Piece). is_event n p.owner) pieces
 
 -- whether a frame is a sample that was read
 abbrev pub is_sample : File → Piece → Bool
-is_sample f p = is_some (period_in (record_of f p))
+is_sample f p = is_some (period_of f p)
 
 -- when the samples among frames happened, of those of which this is known
 abbrev pub sample_times : File → List Piece → List ℕ
@@ -37,10 +37,10 @@ sample_times f pieces = filter (nat_lt 0) (map (time_of f) (filter (is_sample f)
 abbrev pub event_count : File → List Piece → EventCount
 event_count f pieces = record {
   samples = count_by (is_sample f) pieces;
-  period = sum_by (λ p. or_zero (period_in (record_of f p))) pieces % 2 ^ 64;
+  period = sum_by (λ p. or_zero (period_of f p)) pieces % 2 ^ 64;
   first = reduce min (sample_times f pieces);
   last = reduce max (sample_times f pieces);
-  lost = sum_by (λ p. lost_in (record_of f p)) pieces % 2 ^ 64;
+  lost = sum_by (lost_of f) pieces % 2 ^ 64;
   refused = count_by (is_refused f) pieces;
 }
 
@@ -54,7 +54,7 @@ type_in p = (header_seen p.frame).type_
 abbrev pub type_count : ℕ → List Piece → ℕ
 type_count ty pieces = count_by (λ p. type_in p == ty) pieces
 
--- how many have one of the types from 128 on, of which perf has none
+-- how many have one of the types from 128 on
 abbrev pub other_count : List Piece → ℕ
 other_count pieces = count_by (λ p. nat_le 128 (type_in p)) pieces
 

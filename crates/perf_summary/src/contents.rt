@@ -1,23 +1,36 @@
 //! What a frame of a file adds to the counts.
 
-ghost use Rattle.std.specs.Prelude.{◌≡◌, ◌≤◌, Some, Ok, option_map, result_ok};
+ghost use Rattle.std.specs.Prelude.{◌≡◌, ℕ, List, Ok, option_map};
+ghost use Rattle.std.specs.Result.{result_ok};
 ghost use Rattle.perf_base.specs.Configuration.{Configuration};
 ghost use Rattle.perf_base.specs.Configured.{configuration_of, endian_of};
 ghost use Rattle.perf_base.specs.Dynamic.{order_of};
+ghost use Rattle.perf_base.specs.Layout.{layout};
+ghost use Rattle.perf_base.specs.Order.{Order};
+ghost use Rattle.perf_buffers.specs.Prelude.{chunk_bytes};
+ghost use Rattle.perf_records.specs.Answers.{answer_after};
+ghost use Rattle.perf_records.specs.Bodies.{body_of_type};
+ghost use Rattle.perf_records.specs.Records.{RecordValue};
+ghost use Rattle.perf_flat.specs.Arrays.{filled};
+ghost use Rattle.perf_flat.specs.Flat.{numbers_under};
+ghost use Rattle.perf_file.specs.Entries.{time_of};
+ghost use Rattle.perf_file.specs.Opened.{event_view};
 ghost use Rattle.perf_file.specs.Pieces.{piece_of};
 ghost use Rattle.perf_file.specs.Views.{view};
 ghost use Rattle.perf_summary.specs.Contents as contents;
 
+use bitflags::Flags;
 use perf_base::ParseConfig;
 use perf_base::endian::Dynamic;
 use perf_file::entries::time_in;
 use perf_file::listing::header_of;
-use perf_file::{FileFrame, Owner, Recording};
+use perf_file::{Event, FileFrame, Owner, Recording};
 use perf_flat::frame::{FlatFrame, NUMBERS, SPANS, Span};
 use perf_flat::read::read_body;
 use perf_records::frame::Frame;
 use perf_records::frame_end::frame_end;
 use perf_records::record_type::RecordType;
+use perf_words::SampleFlags;
 use std::alloc::Global;
 
 /// What a frame adds to the counts.
@@ -29,8 +42,7 @@ pub struct Contents {
     pub is_refused: bool,
     /// When it happened, in nanoseconds of the clock of the recording, 0 if that is not known.
     pub time: u64,
-    /// The period of a sample, 0 if it does not have one. `None` for other records, and if it is
-    /// refused.
+    /// The period of a sample. `None` for other records, and if it is refused.
     pub period: Option<u64>,
     /// How many records or samples were lost, as LOST and LOST_SAMPLES tell.
     pub lost: u64,
@@ -39,6 +51,7 @@ pub struct Contents {
 // The numbers of a record that are counted.
 #[derive(Copy, Clone)]
 struct Numbers {
+    // The period that a sample contains, 0 if it contains none.
     period: Option<u64>,
     lost: u64,
 }
@@ -73,32 +86,79 @@ pub fn empty_place() -> FlatFrame {
     }
 }
 
-/// What a frame of a file adds to the counts. It is read into `place`, of which nothing counts before.
+/// What a frame of a file adds to the counts. It is read into `place`, whatever was there.
+///
+/// The period of a sample that contains none is that of the attribute of its event, as perf has it.
 pub fn contents_of(
     alloc: Global,
     recording: &Recording<'_>,
     found: &FileFrame<'_>,
     place: &mut FlatFrame,
 ) -> Contents
+    ensures { result ≡ contents.contents_of (view recording.now) (piece_of found.now) }
 {
-    let (numbers, is_refused) = match numbers_of(alloc, recording, found, place) {
-        Some(numbers) => (numbers, false),
-        None => (Numbers::NONE, true),
-    };
+    let read = numbers_of(alloc, recording, found, place);
+    let numbers = numbers_or_none(read);
     Contents {
         type_: header_of(&found.frame).type_,
-        is_refused,
+        is_refused: read.is_none(),
         time: time_of(recording, found),
-        period: numbers.period,
+        period: period_of(fixed_period(recording, found.owner), numbers.period),
         lost: numbers.lost,
     }
 }
 
+// The numbers that were read, or those of no record.
+fn numbers_or_none(read: Option<Numbers>) -> Numbers
+    ensures { result ≡ contents.numbers_or_none read }
+{
+    match read {
+        Some(numbers) => numbers,
+        None => Numbers::NONE,
+    }
+}
+
+// The period of a sample that contains this one: a fixed one comes first.
+fn period_of(fixed: Option<u64>, own: Option<u64>) -> Option<u64>
+    ensures { result ≡ contents.period_by fixed own }
+{
+    match own {
+        Some(own) => Some(fixed.unwrap_or(own)),
+        None => None,
+    }
+}
+
 // When a frame happened.
-fn time_of(recording: &Recording<'_>, found: &FileFrame<'_>) -> u64 {
+fn time_of(recording: &Recording<'_>, found: &FileFrame<'_>) -> u64
+    ensures { result ≡ time_of (view recording.now) (piece_of found.now) }
+{
     match recording.config(found.owner) {
         Some(config) => time_in(config, &found.frame),
         None => 0,
+    }
+}
+
+// The period of the samples of an owner, if they contain none.
+fn fixed_period(recording: &Recording<'_>, owner: Owner) -> Option<u64>
+    ensures { result ≡ contents.fixed_period_of (view recording.now) owner }
+{
+    match owner {
+        Owner::Event(number) => match recording.events().get(number) {
+            Some(event) => fixed_period_of(event),
+            None => None,
+        },
+        Owner::Perf | Owner::Unknown(_) | Owner::Short => None,
+    }
+}
+
+// The same of an event.
+fn fixed_period_of(event: &Event<'_>) -> Option<u64>
+    ensures { result ≡ contents.fixed_period (event_view event.now) }
+{
+    if event.config().sample_type().contains(SampleFlags::PERIOD) {
+        None
+    } else {
+        Some(event.attr().sample_period)
     }
 }
 
@@ -108,21 +168,25 @@ fn numbers_of(
     recording: &Recording<'_>,
     found: &FileFrame<'_>,
     place: &mut FlatFrame,
-) -> Option<Numbers> {
+) -> Option<Numbers>
+    ensures { contents.AreNumbersOf (view recording.now) (piece_of found.now) result }
+{
     if !recording.has_payload(found) {
         return None;
     }
-    let Ok(frame) = &found.frame else {
-        return None;
-    };
-    match recording.config(found.owner) {
-        Some(config) => record_numbers(alloc, config, frame, place),
-        None => own_numbers(found.owner),
+    match &found.frame {
+        Ok(frame) => match recording.config(found.owner) {
+            Some(config) => record_numbers(alloc, config, frame, place),
+            None => own_numbers(found.owner),
+        },
+        Err(_) => None,
     }
 }
 
 // Those of a whole frame whose event has no configuration: perf's own frames are not refused.
-fn own_numbers(owner: Owner) -> Option<Numbers> {
+fn own_numbers(owner: Owner) -> Option<Numbers>
+    ensures { result ≡ contents.own_numbers owner }
+{
     match owner {
         Owner::Event(_) | Owner::Perf => Some(Numbers::NONE),
         Owner::Unknown(_) | Owner::Short => None,
@@ -135,26 +199,25 @@ fn record_numbers(
     config: &ParseConfig<Dynamic>,
     frame: &Frame<'_, '_>,
     place: &mut FlatFrame,
-) -> Option<Numbers> {
+) -> Option<Numbers>
+    ensures { result ≡ option_map contents.numbers_of (result_ok (answer_after (configuration_of config.now)
+        (order_of (endian_of config.now)) frame.now.header (chunk_bytes frame.now.rest))) }
+{
     let header = frame.header();
     let end = frame_end(config, header.type_, frame.rest())?;
-    let is_read = read_body(
-        alloc,
-        config,
-        header.type_,
-        header.misc,
-        end.body,
-        place,
-    );
-    if is_read && place.refusal == 0 {
-        Some(numbers_in(frame.kind(), &place.numbers))
-    } else {
-        None
+    let (ty, misc) = (header.type_, header.misc);
+    if !read_body(alloc, config, ty, misc, end.body, place) || place.refusal != 0 {
+        return None;
     }
+    Some(numbers_in(frame.kind(), &place.numbers))
 }
 
-// Those of a record of a type.
-fn numbers_in(kind: Option<RecordType>, numbers: &[u64; NUMBERS]) -> Numbers {
+// Those of a record of a type, of which these are the numbers in a flat frame.
+fn numbers_in(kind: Option<RecordType>, numbers: &[u64; NUMBERS]) -> Numbers
+    ensures { (c : Configuration) (o : Order) (ty : ℕ) (bytes : List ℕ) (format : ℕ) (value : RecordValue) →
+        layout o (body_of_type c ty kind) bytes ≡ Ok value → numbers.now ≡ filled (numbers_under format value) →
+        result ≡ contents.numbers_of value }
+{
     match kind {
         Some(RecordType::Sample) => Numbers {
             period: Some(numbers[2]),

@@ -4,6 +4,7 @@ ghost use Rattle.std.specs.Prelude.{◌≡◌, IfOk};
 ghost use Rattle.perf_file.specs.Pieces.{pieces_of};
 ghost use Rattle.perf_file.specs.Views.{view};
 ghost use Rattle.perf_summary.specs.Counts.{AreCounts};
+ghost use Rattle.perf_summary.specs.Steps.{number_of};
 
 use crate::contents::{contents_of, empty_place};
 use crate::counts::Counts;
@@ -24,7 +25,9 @@ pub fn counts_of(alloc: Global, recording: &Recording<'_>) -> Result<Counts, All
 }
 
 // The number of the event that is an owner.
-fn number_of(owner: Owner) -> Option<usize> {
+fn number_of(owner: Owner) -> Option<usize>
+    ensures { result ≡ number_of owner }
+{
     match owner {
         Owner::Event(number) => Some(number),
         Owner::Perf | Owner::Unknown(_) | Owner::Short => None,

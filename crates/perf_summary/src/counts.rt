@@ -1,6 +1,8 @@
 //! What is counted of the frames of a file.
 
-ghost use Rattle.std.specs.Prelude.{◌≡◌};
+ghost use Rattle.std.specs.Prelude.{◌≡◌, IfOk, Some, min, max};
+ghost use Rattle.perf_sample_types.specs.SampleId.{one_if};
+ghost use Rattle.perf_summary.specs.Steps as steps;
 
 use crate::contents::Contents;
 use std::alloc::{AllocError, Global};
@@ -53,46 +55,75 @@ impl EventCount {
     };
 
     // Counts one more frame.
-    fn add(&mut self, found: &Contents) {
-        if let Some(period) = found.period {
-            self.add_sample(period, found.time);
-        }
-        self.lost = self.lost.wrapping_add(found.lost);
-        if found.is_refused {
-            self.refused = self.refused.wrapping_add(1);
+    fn add(&mut self, found: &Contents)
+        ensures { self.new ≡ steps.with_frame self.old found.now }
+    {
+        self.add_sample(found.period, found.time);
+        self.add_others(found.lost, found.is_refused);
+    }
+
+    // Counts one more sample, if there is a period.
+    fn add_sample(&mut self, period: Option<u64>, time: u64)
+        ensures { self.new ≡ steps.with_sample self.old period time }
+    {
+        match period {
+            Some(period) => {
+                self.samples = self.samples.wrapping_add(1);
+                self.period = self.period.wrapping_add(period);
+                self.first = least_of(self.first, time);
+                self.last = greatest_of(self.last, time);
+            }
+            None => {}
         }
     }
 
-    // Counts one more sample.
-    fn add_sample(&mut self, period: u64, time: u64) {
-        self.samples = self.samples.wrapping_add(1);
-        self.period = self.period.wrapping_add(period);
-        if time != 0 {
-            self.first = Some(least_of(self.first, time));
-            self.last = Some(greatest_of(self.last, time));
-        }
+    // Counts what was lost, and a refused frame.
+    fn add_others(&mut self, lost: u64, is_refused: bool)
+        ensures { self.new ≡ steps.with_others self.old lost is_refused }
+    {
+        self.lost = self.lost.wrapping_add(lost);
+        self.refused = self.refused.wrapping_add(one_if(is_refused));
     }
 }
 
-// The lesser of a time and those before it.
-fn least_of(before: Option<u64>, time: u64) -> u64 {
+// 1 if so.
+fn one_if(is_so: bool) -> u64
+    ensures { result ≡ one_if is_so }
+{
+    if is_so { 1 } else { 0 }
+}
+
+// The lesser of a time and that before it, of those that are known.
+fn least_of(before: Option<u64>, time: u64) -> Option<u64>
+    ensures { result ≡ steps.joined min before time }
+{
+    if time == 0 {
+        return before;
+    }
     match before {
-        Some(first) => first.min(time),
-        None => time,
+        Some(first) => Some(first.min(time)),
+        None => Some(time),
     }
 }
 
-// The greater of a time and those before it.
-fn greatest_of(before: Option<u64>, time: u64) -> u64 {
+// The greater of a time and that before it, of those that are known.
+fn greatest_of(before: Option<u64>, time: u64) -> Option<u64>
+    ensures { result ≡ steps.joined max before time }
+{
+    if time == 0 {
+        return before;
+    }
     match before {
-        Some(last) => last.max(time),
-        None => time,
+        Some(last) => Some(last.max(time)),
+        None => Some(time),
     }
 }
 
 impl Counts {
     /// The counts of no frames of a file with so many events.
-    pub fn new(alloc: Global, events: usize) -> Result<Counts, AllocError> {
+    pub(crate) fn new(alloc: Global, events: usize) -> Result<Counts, AllocError>
+        ensures { IfOk result (steps.IsNew events) }
+    {
         Ok(Counts {
             frames: 0,
             refused: 0,
@@ -102,32 +133,34 @@ impl Counts {
         })
     }
 
-    /// Counts one more frame, of an event or of none.
-    pub fn add(&mut self, event: Option<usize>, found: &Contents) {
+    /// Counts one more frame, of the event with that number or of none.
+    pub(crate) fn add(&mut self, event: Option<usize>, found: &Contents)
+        ensures { steps.AddsFrame event found.now self.old self.new }
+    {
         self.frames = self.frames.wrapping_add(1);
-        if found.is_refused {
-            self.refused = self.refused.wrapping_add(1);
-        }
-        add_type(&mut self.types, &mut self.other_types, found.type_);
-        if let Some(number) = event {
-            add_to_event(&mut self.events, number, found);
-        }
+        self.refused = self.refused.wrapping_add(one_if(found.is_refused));
+        add_to_event(&mut self.events, event, found);
+        add_to_type(&mut self.types, found.type_);
+        self.other_types = self.other_types.wrapping_add(one_if(found.type_ >= 128));
     }
 }
 
-// Counts one more frame of the event with that number.
-fn add_to_event(events: &mut [EventCount], number: usize, found: &Contents) {
-    if number < events.len() {
-        events[number].add(found);
+// Counts one more frame of the event with that number, if there is one.
+fn add_to_event(events: &mut [EventCount], event: Option<usize>, found: &Contents)
+    ensures { steps.ChangesAt event (λ c. steps.with_frame c found.now) events.old events.new }
+{
+    match event {
+        Some(number) if number < events.len() => events[number].add(found),
+        _ => {}
     }
 }
 
-// Counts one more frame of a type.
-fn add_type(types: &mut [u64], others: &mut u64, ty: u32) {
+// Counts one more frame of a type, if that has a count of its own.
+fn add_to_type(types: &mut [u64], ty: u32)
+    ensures { steps.ChangesAt (Some ty) (λ n. steps.plus n 1) types.old types.new }
+{
     let index = ty as usize;
     if index < types.len() {
         types[index] = types[index].wrapping_add(1);
-    } else {
-        *others = others.wrapping_add(1);
     }
 }

@@ -1,26 +1,75 @@
 //! The summary of a file as lines of text.
 
-ghost use Rattle.std.specs.Prelude.{◌≡◌, ◌++◌, IfOk, OnOk, string_bytes};
+ghost use Rattle.std.specs.Prelude.{◌≡◌, ◌<◌, ◌++◌, ◌||◌, ℕ, Some, not, IfOk, OnOk, length, string_bytes};
+ghost use Rattle.perf_file.specs.Names.{Name, name_view, name_text};
+ghost use Rattle.perf_file.specs.Opened.{FileEvent};
+ghost use Rattle.perf_file.specs.Pieces.{pieces_of};
+ghost use Rattle.perf_file.specs.Views.{view};
+ghost use Rattle.perf_data_text.specs.OwnNames.{AreNamedBy};
+ghost use Rattle.perf_summary.specs.Counts.{AreCounts};
+ghost use Rattle.perf_summary.specs.OwnLines as own;
+ghost use Rattle.perf_summary.specs.SummaryText as texts;
 
 use crate::counting::counts_of;
 use crate::counts::{Counts, EventCount};
 use crate::type_names::type_name;
+use perf_data_text::header::{push_command_line, push_text};
 use perf_file::{Event, Recording};
 use std::alloc::{AllocError, Global};
 use std::fmt;
 
-/// The counts of a file as lines of text: one of its frames, one for each event, and one for each type
-/// that a frame has; and whether a frame is refused.
-pub fn text_of_counts(
+/// The summary of a file as lines of text: the machine and the command, all frames, each event, and each
+/// type that a frame has; and whether a frame or a feature in it is refused.
+pub fn text_of_summary(
     alloc: Global,
     recording: &Recording<'_>,
-) -> Result<(String, bool), AllocError> {
+) -> Result<(String, bool), AllocError>
+    ensures text { (naming : ℕ → FileEvent → Name) → AreNamedBy recording.now naming →
+        IfOk result (λ made. string_bytes made.0
+        ≡ texts.summary_text (view recording.now) recording.now.bytes.now naming) }
+    ensures refused { IfOk result (λ made. made.1
+        ≡ texts.is_any_refused (view recording.now) recording.now.bytes.now) }
+{
     let counts = counts_of(alloc, recording)?;
     let mut text = String::new(alloc);
-    write!(text, "file frames={} refused={}\n", counts.frames, counts.refused)?;
-    push_events(&mut text, recording.events(), &counts.events)?;
-    push_types(&mut text, &counts)?;
-    Ok((text, counts.refused != 0))
+    let is_refused = push_machine(&mut text, recording)?;
+    push_counts(&mut text, recording.events(), &counts)?;
+    Ok((text, is_refused || counts.refused != 0))
+}
+
+// Appends the lines of the machine and the command, and returns whether one of them is refused.
+fn push_machine(text: &mut String, recording: &Recording<'_>) -> Result<bool, AllocError>
+    ensures text { OnOk result (string_bytes text.new ≡ string_bytes text.old
+        ++ texts.machine_text recording.now.order recording.now.bytes.now) }
+    ensures refused { IfOk result (λ refused. refused
+        ≡ texts.is_machine_refused recording.now.order recording.now.bytes.now) }
+{
+    let host = push_text(text, "hostname", recording.hostname())?;
+    let release = push_text(text, "os release", recording.os_release())?;
+    let words = push_command_line(text, recording.command_line())?;
+    Ok(host || release || words)
+}
+
+// Appends the lines of counts.
+fn push_counts(text: &mut String, events: &[Event<'_>], counts: &Counts) -> Result<(), AllocError>
+    requires { length counts.now.events.items ≡ length events.now }
+    ensures { OnOk result (string_bytes text.new
+        ≡ string_bytes text.old ++ own.own_text events.now counts.now) }
+{
+    push_frames(text, counts)?;
+    push_events(text, events, &counts.events)?;
+    push_types(text, &counts.types)?;
+    push_others(text, counts.other_types)
+}
+
+// Appends the line of all frames.
+fn push_frames(text: &mut String, counts: &Counts) -> Result<(), AllocError>
+    ensures { OnOk result (string_bytes text.new
+        ≡ string_bytes text.old ++ texts.frames_line counts.now.frames counts.now.refused) }
+{
+    let frames = counts.frames;
+    let refused = counts.refused;
+    write!(text, "file frames={frames} refused={refused}\n")
 }
 
 // Appends the lines of events, numbered from 0.
@@ -28,23 +77,27 @@ fn push_events(
     text: &mut String,
     events: &[Event<'_>],
     counts: &[EventCount],
-) -> Result<(), AllocError> {
+) -> Result<(), AllocError>
+    requires { length counts.now ≡ length events.now }
+    ensures { OnOk result (string_bytes text.new
+        ≡ string_bytes text.old ++ own.own_event_lines counts.now 0 events.now) }
+{
     for index in 0..events.len() {
-        if index < counts.len() {
-            push_event(text, index, &events[index], &counts[index])?;
-        }
+        push_event(text, index, &events[index], &counts[index])?;
     }
     Ok(())
 }
 
-// A number that is unknown if absent.
+// A time, which may not be known.
 #[derive(Copy, Clone)]
-struct Known(Option<u64>);
+struct Time(Option<u64>);
 
-impl fmt::Display for Known {
+impl fmt::Display for Time {
+    ghost output = { λ t. Some (texts.time_text t.0) };
+
     fn fmt<W: fmt::Write>(&self, f: &mut fmt::Formatter<W>) -> fmt::Result {
         match self.0 {
-            Some(number) => write!(f, "{number}"),
+            Some(time) => write!(f, "{time}"),
             None => f.write_str("-"),
         }
     }
@@ -56,27 +109,69 @@ fn push_event(
     index: usize,
     event: &Event<'_>,
     count: &EventCount,
-) -> Result<(), AllocError> {
-    write!(text, "event {index} samples={} period={}", count.samples, count.period)?;
-    write!(text, " first={} last={}", Known(count.first), Known(count.last))?;
-    write!(text, " lost={} refused={} {}\n", count.lost, count.refused, event.name())
+) -> Result<(), AllocError>
+    ensures { OnOk result (string_bytes text.new ≡ string_bytes text.old
+        ++ texts.event_line index count.now (name_text (name_view event.now.name))) }
+{
+    push_samples(text, index, count)?;
+    push_losses(text, count)?;
+    write!(text, " {}\n", event.name())
 }
 
-// Appends the lines of types.
-fn push_types(text: &mut String, counts: &Counts) -> Result<(), AllocError> {
-    for ty in 0..counts.types.len() {
-        push_type(text, ty, counts.types[ty])?;
-    }
-    if counts.other_types != 0 {
-        write!(text, "type other frames={}\n", counts.other_types)?;
+// Appends the number of an event, and the counts of its samples.
+fn push_samples(text: &mut String, index: usize, count: &EventCount) -> Result<(), AllocError>
+    ensures { OnOk result (string_bytes text.new
+        ≡ string_bytes text.old ++ own.samples_words index count.now) }
+{
+    let samples = count.samples;
+    let period = count.period;
+    let first = Time(count.first);
+    let last = Time(count.last);
+    write!(
+        text,
+        "event {index} samples={samples} period={period} first={first} last={last}"
+    )
+}
+
+// Appends what was lost and refused of an event.
+fn push_losses(text: &mut String, count: &EventCount) -> Result<(), AllocError>
+    ensures { OnOk result (string_bytes text.new
+        ≡ string_bytes text.old ++ own.losses_words count.now) }
+{
+    let lost = count.lost;
+    let refused = count.refused;
+    write!(text, " lost={lost} refused={refused}")
+}
+
+// Appends the lines of types, numbered from 0.
+fn push_types(text: &mut String, types: &[u64]) -> Result<(), AllocError>
+    ensures { OnOk result (string_bytes text.new
+        ≡ string_bytes text.old ++ own.own_type_lines types.now (length types.now)) }
+{
+    for ty in 0..types.len() {
+        push_type(text, ty, types[ty])?;
     }
     Ok(())
 }
 
 // Appends the line of a type, if a frame has it.
-fn push_type(text: &mut String, ty: usize, count: u64) -> Result<(), AllocError> {
+fn push_type(text: &mut String, ty: usize, count: u64) -> Result<(), AllocError>
+    ensures { OnOk result (string_bytes text.new
+        ≡ string_bytes text.old ++ texts.type_line ty count) }
+{
     if count == 0 {
         return Ok(());
     }
     write!(text, "type {ty} frames={count} {}\n", type_name(ty))
+}
+
+// Appends the line of the other types, if a frame has one.
+fn push_others(text: &mut String, count: u64) -> Result<(), AllocError>
+    ensures { OnOk result (string_bytes text.new
+        ≡ string_bytes text.old ++ texts.other_line count) }
+{
+    if count == 0 {
+        return Ok(());
+    }
+    write!(text, "type other frames={count}\n")
 }

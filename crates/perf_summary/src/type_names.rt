@@ -4,7 +4,9 @@ ghost use Rattle.std.specs.Prelude.{◌≡◌};
 ghost use Rattle.perf_summary.specs.TypeNames as names;
 
 /// The name that `perf report --stats` prints for a type, `-` if it has none.
-pub fn type_name(ty: usize) -> &'static str {
+pub fn type_name(ty: usize) -> &'static str
+    ensures { result.now ≡ names.type_name ty }
+{
     if ty < 64 {
         kernel_type_name(ty)
     } else {
@@ -13,7 +15,9 @@ pub fn type_name(ty: usize) -> &'static str {
 }
 
 // Those of the kernel's types, `PERF_RECORD_*`.
-fn kernel_type_name(ty: usize) -> &'static str {
+fn kernel_type_name(ty: usize) -> &'static str
+    ensures { result.now ≡ names.kernel_type_name ty }
+{
     match ty {
         1 => "MMAP",
         2 => "LOST",
@@ -41,7 +45,9 @@ fn kernel_type_name(ty: usize) -> &'static str {
 }
 
 // Those of the types of perf's own frames.
-fn own_type_name(ty: usize) -> &'static str {
+fn own_type_name(ty: usize) -> &'static str
+    ensures { result.now ≡ names.own_type_name ty }
+{
     match ty {
         64 => "ATTR",
         65 => "EVENT_TYPE",
