@@ -108,6 +108,61 @@ header group "$examples/group.data" group.data -e '{task-clock,page-faults}:S' -
 header events "$examples/big-endian.data"
 check 0 "$examples/killed.events" events --header "$examples/killed.data"
 
+# What is counted, as awk counts it in the lines of frames, which perf has read. A sample that contains no period has that of
+# its event, which is what `perf record` was given: summary NAME FILE HEADER PERIOD ..
+summary() {
+    name=$1 file_of_it=$2 head=$3
+    shift 3
+    {
+        printf '%s' "$head"
+        awk -v fixed="$*" '
+            BEGIN {
+                split(fixed, period_of, " ")
+                split("MMAP LOST COMM EXIT THROTTLE UNTHROTTLE FORK READ SAMPLE MMAP2 AUX ITRACE_START LOST_SAMPLES SWITCH SWITCH_CPU_WIDE NAMESPACES KSYMBOL BPF_EVENT CGROUP", names, " ")
+                split("ATTR EVENT_TYPE TRACING_DATA BUILD_ID FINISHED_ROUND ID_INDEX AUXTRACE_INFO AUXTRACE AUXTRACE_ERROR THREAD_MAP CPU_MAP STAT_CONFIG STAT STAT_ROUND EVENT_UPDATE TIME_CONV FEATURE COMPRESSED FINISHED_INIT", own, " ")
+            }
+            function number(name, absent) { return match($0, " " name "=[0-9]+") ? substr($0, RSTART + length(name) + 2, RLENGTH - length(name) - 2) : absent }
+            NR == FNR { events++; number_of[events] = $1; sub(/ type=.*/, ""); sub(/^[0-9]+ /, ""); event[events] = $0; next }
+            { frames++; types[$4]++ }
+            $7 == "refused" { refused++; if ($3 ~ /^[0-9]+$/) of_event[$3]++; next }
+            $4 == 2 || $4 == 13 { lost[$3] += number("lost", 0) }
+            $4 == 9 {
+                samples[$3]++
+                period[$3] += number("period", period_of[$3 + 1])
+                time = number("time", "-")
+                if (!($3 in first) || time < first[$3]) first[$3] = time
+                if (!($3 in last) || time > last[$3]) last[$3] = time
+            }
+            END {
+                printf "file frames=%d refused=%d\n", frames, refused
+                for (i = 1; i <= events; i++) {
+                    e = number_of[i]
+                    printf "event %s samples=%d period=%d first=%s last=%s lost=%.0f refused=%d %s\n", e, samples[e], period[e], e in first ? first[e] : "-", e in last ? last[e] : "-", lost[e], of_event[e], event[i]
+                }
+                for (ty = 0; ty < 128; ty++)
+                    if (ty in types) printf "type %d frames=%d %s\n", ty, types[ty], ty < 64 ? names[ty] : own[ty - 63]
+            }' "$examples/$name.events" "${dump:-$examples/$name.dump}"
+    } >"$work/output"
+    check "${status_of_it:-0}" "$work/output" summary "$file_of_it"
+}
+stated() { printf '# hostname : vm\n# os release : 6.18.44-fc-v595\n# cmdline : /usr/bin/perf record -q -B -o'; printf ' %s' "$@"; printf '\n.'; }
+three='-e task-clock/period=2000000/ -e page-faults/period=7,call-graph=fp/ -e context-switches/period=1/ --namespaces -- sh -c '
+script='ls / >/dev/null\x0a        date > /dev/null\x0a        sleep 0.01 & wait'
+head_of_events=$(stated events.data "$three$script")
+summary events "$file" "${head_of_events%.}" 2000000 7 1
+head_of_it=$(stated - "$three$script")
+summary pipe "$examples/pipe.data" "${head_of_it%.}" 2000000 7 1
+head_of_it=$(stated machine.data -a -e cpu-clock/freq=1000/ -- sh -c 'ls / > /dev/null\x0a        sleep 0.01')
+summary machine "$examples/machine.data" "${head_of_it%.}" 0 0
+head_of_it=$(stated group.data -e '{task-clock,page-faults}:S' -c 250000 -- ls -l /usr/bin)
+summary group "$examples/group.data" "${head_of_it%.}" 250000 250000
+summary killed "$examples/killed.data" '' 3 3
+summary events "$examples/big-endian.data" '# hostname : vm
+' 2000000 7 1
+input=$file
+check 0 "$work/output" summary "$examples/big-endian.data"
+input=/dev/null
+
 # A bad feature: the length of the name of the machine is the first number of the first feature, whose offset is the first
 # number after the data. Then the offset is beyond the file.
 read -r last size < <(tail -n 1 "$examples/events.dump" | cut -d ' ' -f 2,6)

@@ -1,25 +1,12 @@
 -- The lines of counts, of which some are appended at a time. Private contracts use this form.
-use Rattle.std.specs.Prelude.{ℕ, List, ◌++◌, codes, decimal, length, slice_index_or}
+use Rattle.std.specs.Prelude.{ℕ, List, ◌++◌, length, slice_index_or}
 use Rattle.std.specs.List.{flat_map, enumerate_from}
 use Rattle.perf_file.specs.Names.{name_view, name_text}
 use Rattle.perf_file.specs.declared.events.Event.{Event}
-use Rattle.perf_summary.specs.SummaryText.{frames_line, time_text, event_line, type_lines, other_line}
+use Rattle.perf_summary.specs.SummaryText.{frames_line, event_line, type_lines, other_line}
 use Rattle.perf_summary.specs.Steps.{no_count}
 use Rattle.perf_summary.specs.declared.counts.Counts.{Counts}
 use Rattle.perf_summary.specs.declared.counts.EventCount.{EventCount}
-
--- the number of an event, and the counts of its samples
-abbrev pub samples_words : ℕ → EventCount → List ℕ
-samples_words n c =
-    codes "event " ++ decimal n
-    ++ codes " samples=" ++ decimal c.samples
-    ++ codes " period=" ++ decimal c.period
-    ++ codes " first=" ++ time_text c.first
-    ++ codes " last=" ++ time_text c.last
-
--- what was lost and refused of it
-abbrev pub losses_words : EventCount → List ℕ
-losses_words c = codes " lost=" ++ decimal c.lost ++ codes " refused=" ++ decimal c.refused
 
 -- the lines of events with these counts, numbered from a first number
 abbrev pub own_event_lines : List EventCount → ℕ → List Event → List ℕ

@@ -1,11 +1,13 @@
 -- How counts grow by one frame. Private contracts use this form.
-use Rattle.std.specs.Prelude.{◌≡◌, ℕ, ◌+◌, ◌%◌, ◌^◌, ◌<◌, ◌==◌, Bool, false, List, length, min, max, replicate, slice_index_or, nat_le, Option, Some, None, if◌then◌else◌}
-use Rattle.perf_file.specs.declared.owning.Owner.{Owner}
-use Rattle.perf_file.specs.declared.owning.Owner.TheVariants as owner
-use Rattle.perf_sample_types.specs.SampleId.{one_if}
+use Rattle.std.specs.Prelude.{◌≡◌, ℕ, ◌+◌, ◌%◌, ◌^◌, ◌<◌, ◌==◌, Bool, List, length, min, max, replicate, slice_index_or, nat_le, Option, Some, None, cond, if◌then◌else◌}
+use Rattle.perf_summary.specs.Counts.{is_number}
 use Rattle.perf_summary.specs.declared.contents.Contents.{Contents}
 use Rattle.perf_summary.specs.declared.counts.Counts.{Counts}
 use Rattle.perf_summary.specs.declared.counts.EventCount.{EventCount}
+
+-- 1 if so
+abbrev pub one_if : Bool → ℕ
+one_if is_so = cond is_so 1 0
 
 -- a sum modulo 2^64
 abbrev pub plus : ℕ → ℕ → ℕ
@@ -38,22 +40,10 @@ with_others c lost is_refused = record c { lost = plus c.lost lost; refused = pl
 abbrev pub with_frame : EventCount → Contents → EventCount
 with_frame c x = with_others (with_sample c x.period x.time) x.lost x.is_refused
 
--- the number of an owner that is an event
-abbrev pub number_of : Owner → Option ℕ
-number_of (owner.Event n) = Some n
-number_of owner.Perf = None
-number_of (owner.Unknown id) = None
-number_of owner.Short = None
-
--- whether an index is this one
-abbrev pub is_at : Option ℕ → ℕ → Bool
-is_at (Some at) n = at == n
-is_at None n = false
-
 -- the item at an index was changed, if there is one, and no other
 pub record ChangesAt {A : Type 0} (at : Option ℕ) (change : A → A) (old new : List A) : Type 0 where
   pub same : length new ≡ length old
-  pub items : (n : ℕ) (d : A) → n < length old → slice_index_or new n d ≡ (if is_at at n then change (slice_index_or old n d) else slice_index_or old n d)
+  pub items : (n : ℕ) (d : A) → n < length old → slice_index_or new n d ≡ (if is_number at n then change (slice_index_or old n d) else slice_index_or old n d)
 
 -- the counts of no frames of an event
 abbrev pub no_count : EventCount
@@ -67,10 +57,10 @@ pub record IsNew (number : ℕ) (c : Counts) : Type 0 where
   pub types : c.types.items ≡ replicate 128 0
   pub other_types : c.other_types ≡ 0
 
--- one more frame of an event, or of none, was counted
-pub record AddsFrame (event : Option ℕ) (x : Contents) (old new : Counts) : Type 0 where
+-- one more frame was counted
+pub record AddsFrame (x : Contents) (old new : Counts) : Type 0 where
   pub frames : new.frames ≡ plus old.frames 1
   pub refused : new.refused ≡ plus old.refused (one_if x.is_refused)
-  pub events : ChangesAt event (λ c. with_frame c x) old.events.items new.events.items
+  pub events : ChangesAt x.event (λ c. with_frame c x) old.events.items new.events.items
   pub types : ChangesAt (Some x.type_) (λ n. plus n 1) old.types.items new.types.items
   pub other_types : new.other_types ≡ plus old.other_types (one_if (nat_le 128 x.type_))

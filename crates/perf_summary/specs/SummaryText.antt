@@ -5,11 +5,11 @@ use Rattle.perf_base.specs.declared.endian.Dynamic.{Dynamic}
 use Rattle.perf_file.specs.FeatureTexts.{text_of, command_line_of}
 use Rattle.perf_file.specs.Names.{Name, name_text}
 use Rattle.perf_file.specs.Opened.{File, FileEvent}
-use Rattle.perf_file.specs.Pieces.{Piece, pieces_of}
 use Rattle.perf_data_text.specs.HeaderText.{feature_lines, text_line, words_line}
-use Rattle.perf_summary.specs.Contents.{is_refused}
-use Rattle.perf_summary.specs.Counts.{event_count, of_event, type_count, other_count}
+use Rattle.perf_summary.specs.Contents.{all_contents}
+use Rattle.perf_summary.specs.Counts.{is_refused, event_count, of_event, type_count, other_count}
 use Rattle.perf_summary.specs.TypeNames.{type_name}
+use Rattle.perf_summary.specs.declared.contents.Contents.{Contents}
 use Rattle.perf_summary.specs.declared.counts.EventCount.{EventCount}
 
 -- ---- the machine and the command
@@ -39,17 +39,22 @@ abbrev pub time_text : Option ℕ → List ℕ
 time_text (Some t) = decimal t
 time_text None = codes "-"
 
--- the line of an event: its number, its counts, and its name
-abbrev pub event_line : ℕ → EventCount → (name : List ℕ) → List ℕ
-event_line n c name =
+-- the number of an event, and the counts of its samples
+abbrev pub samples_words : ℕ → EventCount → List ℕ
+samples_words n c =
     codes "event " ++ decimal n
     ++ codes " samples=" ++ decimal c.samples
     ++ codes " period=" ++ decimal c.period
     ++ codes " first=" ++ time_text c.first
     ++ codes " last=" ++ time_text c.last
-    ++ codes " lost=" ++ decimal c.lost
-    ++ codes " refused=" ++ decimal c.refused
-    ++ codes " " ++ name ++ codes "\n"
+
+-- what was lost and refused of it
+abbrev pub losses_words : EventCount → List ℕ
+losses_words c = codes " lost=" ++ decimal c.lost ++ codes " refused=" ++ decimal c.refused
+
+-- its line: also its name
+abbrev pub event_line : ℕ → EventCount → (name : List ℕ) → List ℕ
+event_line n c name = samples_words n c ++ losses_words c ++ (codes " " ++ name ++ codes "\n")
 
 -- those of events, numbered from a first number, by the name and the counts of each
 abbrev pub event_lines : (naming : ℕ → FileEvent → Name) → (counts : ℕ → EventCount) → ℕ → List FileEvent → List ℕ
@@ -71,18 +76,18 @@ type_lines counts (suc ty) = type_lines counts ty ++ type_line ty (counts ty)
 abbrev pub other_line : (count : ℕ) → List ℕ
 other_line count = if count == 0 then [] else codes "type other frames=" ++ decimal count ++ codes "\n"
 
--- the lines of frames of a file: of all, of each event, and of each type
-abbrev pub counts_text : File → (naming : ℕ → FileEvent → Name) → List Piece → List ℕ
-counts_text f naming pieces =
-    frames_line (length pieces) (count_by (is_refused f) pieces)
-    ++ event_lines naming (λ n. event_count f (of_event n pieces)) 0 f.events
-    ++ type_lines (λ ty. type_count ty pieces) 128
-    ++ other_line (other_count pieces)
+-- the lines of frames, by what each adds: of all, of each event, and of each type
+abbrev pub counts_text : (naming : ℕ → FileEvent → Name) → List FileEvent → List Contents → List ℕ
+counts_text naming events xs =
+    frames_line (length xs) (count_by is_refused xs)
+    ++ event_lines naming (λ n. event_count (of_event n xs)) 0 events
+    ++ type_lines (λ ty. type_count ty xs) 128
+    ++ other_line (other_count xs)
 
 -- the summary of a file with these bytes, whose events have these names
 abbrev pub summary_text : File → (bytes : List ℕ) → (naming : ℕ → FileEvent → Name) → List ℕ
-summary_text f bytes naming = machine_text f.order bytes ++ counts_text f naming (pieces_of f)
+summary_text f bytes naming = machine_text f.order bytes ++ counts_text naming f.events (all_contents f)
 
 -- whether a frame or a feature in it is refused
 abbrev pub is_any_refused : File → (bytes : List ℕ) → Bool
-is_any_refused f bytes = is_machine_refused f.order bytes || not (count_by (is_refused f) (pieces_of f) == 0)
+is_any_refused f bytes = is_machine_refused f.order bytes || not (count_by is_refused (all_contents f) == 0)

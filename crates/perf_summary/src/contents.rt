@@ -1,18 +1,14 @@
 //! What a frame of a file adds to the counts.
 
-ghost use Rattle.std.specs.Prelude.{◌≡◌, ℕ, List, Ok, option_map};
+ghost use Rattle.std.specs.Prelude.{◌≡◌, ◌<◌, length, option_map};
 ghost use Rattle.std.specs.Result.{result_ok};
-ghost use Rattle.perf_base.specs.Configuration.{Configuration};
+ghost use Rattle.perf_base.specs.Configuration.{under_misc};
 ghost use Rattle.perf_base.specs.Configured.{configuration_of, endian_of};
 ghost use Rattle.perf_base.specs.Dynamic.{order_of};
 ghost use Rattle.perf_base.specs.Layout.{layout};
-ghost use Rattle.perf_base.specs.Order.{Order};
 ghost use Rattle.perf_buffers.specs.Prelude.{chunk_bytes};
 ghost use Rattle.perf_records.specs.Answers.{answer_after};
-ghost use Rattle.perf_records.specs.Bodies.{body_of_type};
-ghost use Rattle.perf_records.specs.Records.{RecordValue};
-ghost use Rattle.perf_flat.specs.Arrays.{filled};
-ghost use Rattle.perf_flat.specs.Flat.{numbers_under};
+ghost use Rattle.perf_records.specs.Bodies.{body};
 ghost use Rattle.perf_file.specs.Entries.{time_of};
 ghost use Rattle.perf_file.specs.Opened.{event_view};
 ghost use Rattle.perf_file.specs.Pieces.{piece_of};
@@ -22,6 +18,7 @@ ghost use Rattle.perf_summary.specs.Contents as contents;
 use bitflags::Flags;
 use perf_base::ParseConfig;
 use perf_base::endian::Dynamic;
+use perf_base::sys::perf_event_header;
 use perf_file::entries::time_in;
 use perf_file::listing::header_of;
 use perf_file::{Event, FileFrame, Owner, Recording};
@@ -36,6 +33,8 @@ use std::alloc::Global;
 /// What a frame adds to the counts.
 #[derive(Copy, Clone, Debug, PartialEq, Eq)]
 pub struct Contents {
+    /// The number of its event, if it has one.
+    pub event: Option<usize>,
     /// The type in its header, `PERF_RECORD_*`.
     pub type_: u32,
     /// Whether it is refused.
@@ -100,11 +99,22 @@ pub fn contents_of(
     let read = numbers_of(alloc, recording, found, place);
     let numbers = numbers_or_none(read);
     Contents {
+        event: event_of(found.owner),
         type_: header_of(&found.frame).type_,
         is_refused: read.is_none(),
         time: time_of(recording, found),
         period: period_of(fixed_period(recording, found.owner), numbers.period),
         lost: numbers.lost,
+    }
+}
+
+// The number of the event that is an owner.
+fn event_of(owner: Owner) -> Option<usize>
+    ensures { result ≡ contents.event_of owner }
+{
+    match owner {
+        Owner::Event(number) => Some(number),
+        Owner::Perf | Owner::Unknown(_) | Owner::Short => None,
     }
 }
 
@@ -203,20 +213,48 @@ fn record_numbers(
     ensures { result ≡ option_map contents.numbers_of (result_ok (answer_after (configuration_of config.now)
         (order_of (endian_of config.now)) frame.now.header (chunk_bytes frame.now.rest))) }
 {
-    let header = frame.header();
-    let end = frame_end(config, header.type_, frame.rest())?;
-    let (ty, misc) = (header.type_, header.misc);
-    if !read_body(alloc, config, ty, misc, end.body, place) || place.refusal != 0 {
-        return None;
+    if read_record(alloc, config, frame, place) {
+        Some(numbers_in(frame.kind(), &place.numbers))
+    } else {
+        None
     }
-    Some(numbers_in(frame.kind(), &place.numbers))
+}
+
+// Reads the record of a whole frame into a place, and returns whether it is not refused.
+fn read_record(
+    alloc: Global,
+    config: &ParseConfig<Dynamic>,
+    frame: &Frame<'_, '_>,
+    place: &mut FlatFrame,
+) -> bool
+    ensures { contents.Reads (configuration_of config.now).read_format (answer_after (configuration_of config.now)
+        (order_of (endian_of config.now)) frame.now.header (chunk_bytes frame.now.rest)) result place.new }
+{
+    let header = frame.header();
+    match frame_end(config, header.type_, frame.rest()) {
+        Some(end) => read_end(alloc, config, header, end.body, place),
+        None => false,
+    }
+}
+
+// Reads the record in a body, after that header.
+fn read_end(
+    alloc: Global,
+    config: &ParseConfig<Dynamic>,
+    header: perf_event_header,
+    bytes: &[u8],
+    place: &mut FlatFrame,
+) -> bool
+    requires { length bytes.now < 65528 }
+    ensures { contents.Reads (configuration_of config.now).read_format (layout (order_of (endian_of config.now))
+        (body (under_misc header.misc (configuration_of config.now)) header.type_) bytes.now) result place.new }
+{
+    read_body(alloc, config, header.type_, header.misc, bytes, place) && place.refusal == 0
 }
 
 // Those of a record of a type, of which these are the numbers in a flat frame.
 fn numbers_in(kind: Option<RecordType>, numbers: &[u64; NUMBERS]) -> Numbers
-    ensures { (c : Configuration) (o : Order) (ty : ℕ) (bytes : List ℕ) (format : ℕ) (value : RecordValue) →
-        layout o (body_of_type c ty kind) bytes ≡ Ok value → numbers.now ≡ filled (numbers_under format value) →
-        result ≡ contents.numbers_of value }
+    ensures { result ≡ contents.numbers_by kind numbers.now }
 {
     match kind {
         Some(RecordType::Sample) => Numbers {

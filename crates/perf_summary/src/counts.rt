@@ -1,7 +1,6 @@
 //! What is counted of the frames of a file.
 
 ghost use Rattle.std.specs.Prelude.{◌≡◌, IfOk, Some, min, max};
-ghost use Rattle.perf_sample_types.specs.SampleId.{one_if};
 ghost use Rattle.perf_summary.specs.Steps as steps;
 
 use crate::contents::Contents;
@@ -88,7 +87,7 @@ impl EventCount {
 
 // 1 if so.
 fn one_if(is_so: bool) -> u64
-    ensures { result ≡ one_if is_so }
+    ensures { result ≡ steps.one_if is_so }
 {
     if is_so { 1 } else { 0 }
 }
@@ -133,23 +132,23 @@ impl Counts {
         })
     }
 
-    /// Counts one more frame, of the event with that number or of none.
-    pub(crate) fn add(&mut self, event: Option<usize>, found: &Contents)
-        ensures { steps.AddsFrame event found.now self.old self.new }
+    /// Counts one more frame.
+    pub(crate) fn add(&mut self, found: &Contents)
+        ensures { steps.AddsFrame found.now self.old self.new }
     {
         self.frames = self.frames.wrapping_add(1);
         self.refused = self.refused.wrapping_add(one_if(found.is_refused));
-        add_to_event(&mut self.events, event, found);
+        add_to_event(&mut self.events, found);
         add_to_type(&mut self.types, found.type_);
         self.other_types = self.other_types.wrapping_add(one_if(found.type_ >= 128));
     }
 }
 
-// Counts one more frame of the event with that number, if there is one.
-fn add_to_event(events: &mut [EventCount], event: Option<usize>, found: &Contents)
-    ensures { steps.ChangesAt event (λ c. steps.with_frame c found.now) events.old events.new }
+// Counts one more frame of its event, if there is one.
+fn add_to_event(events: &mut [EventCount], found: &Contents)
+    ensures { steps.ChangesAt found.now.event (λ c. steps.with_frame c found.now) events.old events.new }
 {
-    match event {
+    match found.event {
         Some(number) if number < events.len() => events[number].add(found),
         _ => {}
     }

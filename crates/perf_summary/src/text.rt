@@ -121,7 +121,7 @@ fn push_event(
 // Appends the number of an event, and the counts of its samples.
 fn push_samples(text: &mut String, index: usize, count: &EventCount) -> Result<(), AllocError>
     ensures { OnOk result (string_bytes text.new
-        ≡ string_bytes text.old ++ own.samples_words index count.now) }
+        ≡ string_bytes text.old ++ texts.samples_words index count.now) }
 {
     let samples = count.samples;
     let period = count.period;
@@ -136,7 +136,7 @@ fn push_samples(text: &mut String, index: usize, count: &EventCount) -> Result<(
 // Appends what was lost and refused of an event.
 fn push_losses(text: &mut String, count: &EventCount) -> Result<(), AllocError>
     ensures { OnOk result (string_bytes text.new
-        ≡ string_bytes text.old ++ own.losses_words count.now) }
+        ≡ string_bytes text.old ++ texts.losses_words count.now) }
 {
     let lost = count.lost;
     let refused = count.refused;
