@@ -39,6 +39,7 @@ check() {
 # A file that cannot be opened: refuses MESSAGE FILE
 refuses() {
     check 2 /dev/null events "$2"
+    check 2 /dev/null summary "$2"
     check 2 /dev/null dump "$2"
     [ "$(cat "$work/found.err")" = "perf_data: $2: $1" ] || {
         failed=$((failed + 1))
@@ -230,11 +231,11 @@ printf 'a 18446744073709551615\nb 1' >"$work/damaged"
 tells "$work/damaged: the counts have a sum of 2^64 or more: leave lines out" flame --folded "$work/damaged"
 
 # Other words, and help.
-for words in '' events dump other 'events one two' 'dump one two' 'dump --order' 'dump --order size one' 'events --order time one' 'dump --header one' '--all' 'dump --all one' fold flame 'fold --merge' 'fold one two' 'flame --folded one two' 'flame --merge one'; do
+for words in '' events dump summary other 'events one two' 'summary one two' 'summary --header one' 'dump one two' 'dump --order' 'dump --order size one' 'events --order time one' 'dump --header one' '--all' 'dump --all one' fold flame 'fold --merge' 'fold one two' 'flame --folded one two' 'flame --merge one'; do
     # shellcheck disable=SC2086  # these are several words
     check 2 /dev/null $words
 done
-for words in --help 'events --help' 'dump --help' 'fold --help' 'flame --help'; do
+for words in --help 'events --help' 'dump --help' 'summary --help' 'fold --help' 'flame --help'; do
     # shellcheck disable=SC2086
     "${program[@]}" $words >"$work/found.out" 2>"$work/found.err" && [ -s "$work/found.out" ] && ! [ -s "$work/found.err" ] || {
         failed=$((failed + 1))
@@ -245,13 +246,15 @@ done
 
 # No file, an output that is full.
 check 3 /dev/null events "$work/absent"
-"${program[@]}" dump "$file" >/dev/full 2>"$work/found.err"
-found=$?
-tried=$((tried + 1))
-[ $found = 3 ] && [ -s "$work/found.err" ] || {
-    failed=$((failed + 1))
-    echo "FAILED: status $found, not 3, of a full output"
-}
+for words in dump summary; do
+    "${program[@]}" $words "$file" >/dev/full 2>"$work/found.err"
+    found=$?
+    tried=$((tried + 1))
+    [ $found = 3 ] && [ -s "$work/found.err" ] || {
+        failed=$((failed + 1))
+        echo "FAILED: status $found, not 3, of a full output"
+    }
+done
 
 # No file of perf record.
 refuses 'this is no perf.data file: pass a file that `perf record` has written' /dev/null
@@ -269,24 +272,44 @@ read -r number at _ < <(tail -n 1 "$examples/events.dump")
 read -r before place _ _ _ size _ < <(tail -n 2 "$examples/events.dump")
 head -n $((lines - 1)) "$examples/events.dump" >"$work/without_last"
 head -n $((lines - 2)) "$examples/events.dump" >"$work/without_two"
+tail -n 2 "$examples/events.dump" >"$work/last_two"
+
+# The summary of a damaged copy, by its lines of frames: damaged_summary STATUS NAME DUMP
+damaged_summary() {
+    cp "$3" "$work/dump"
+    status_of_it=$1 dump=$work/dump summary "$2" "$work/damaged" "${head_of_events%.}" 2000000 7 1
+}
 
 # As a SWITCH it is too short for an id.
 cp "$file" "$work/damaged"
 damage "$at" '\16'
 { cat "$work/without_last"; echo "$number $at ? 14 0 8 refused NoId"; } >"$work/output"
 check 1 "$work/output" dump "$work/damaged"
+damaged_summary 1 events "$work/output"
 
 # An id that no event has is at the end of the EXIT.
 cp "$file" "$work/damaged"
 damage $((at - 8)) '\377\377\377\377\377\377\377\177'
 { cat "$work/without_two"; echo "$before $place ?9223372036854775807 4 0 $size refused UnknownId"; tail -n 1 "$examples/events.dump"; } >"$work/output"
 check 1 "$work/output" dump "$work/damaged"
+damaged_summary 1 events "$work/output"
 
 # As AUXTRACE, which announces the bytes after it, it announces more than there are.
 cp "$file" "$work/damaged"
 damage "$place" '\107'
 { cat "$work/without_two"; echo "$before $place - 71 0 $size refused Eof"; } >"$work/output"
 check 1 "$work/output" dump "$work/damaged"
+damaged_summary 1 events "$work/output"
+
+# As LOST the EXIT tells of its second number of eight bytes, as LOST_SAMPLES of the first.
+task=$(sed -n 's/.* Exit pid=\([0-9]*\) ppid=\([0-9]*\) .*/\1 + (\2 << 32)/p' "$work/last_two")
+cp "$file" "$work/damaged"
+damage "$place" '\2'
+{ cat "$work/without_two"; echo "$before $place 0 2 0 $size Lost id=0 lost=$((task))"; tail -n 1 "$examples/events.dump"; } >"$work/output"
+damaged_summary 0 events "$work/output"
+damage "$place" '\15'
+{ cat "$work/without_two"; echo "$before $place 0 13 0 $size LostSamples lost=$((task))"; tail -n 1 "$examples/events.dump"; } >"$work/output"
+damaged_summary 0 events "$work/output"
 
 # perf was killed, and the file ends inside the EXIT.
 head -c $((place + 20)) "$file" >"$work/damaged"

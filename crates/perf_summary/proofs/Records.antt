@@ -35,10 +35,10 @@ use Rattle.perf_summary.specs.Contents.{numbers_of, numbers_by, numbers_or_none,
 
 -- ---- the record of a type
 
-value_mapped : {A B : Type 0} (o : Order) (bytes : List ℕ) (s : ℕ) (f : A → B) (p : Parts A) → value o bytes s (map_parts f p) ≡ f (value o bytes s p)
-value_mapped o bytes s f (done v) = refl
-value_mapped o bytes s f (part shape k) = value_mapped o bytes _ f (k _)
-value_mapped o bytes s f (check t e p) = value_mapped o bytes s f p
+value_mapped : {A B : Type 0} (o : Order) (bytes : List ℕ) (f : A → B) (p : Parts A) (s : ℕ) → value o bytes s (map_parts f p) ≡ f (value o bytes s p)
+value_mapped o bytes f (done v) s = refl
+value_mapped o bytes f (part shape k) s = value_mapped o bytes f (k _) _
+value_mapped o bytes f (check t e p) s = value_mapped o bytes f p s
 
 is_value : {A : Type 0} (r : Option ErrorKind) (v w : A) → ◌≡◌ {A = Result A ErrorKind} (elim r [ None ↦ Ok v | Some e ↦ Err e ]) (Ok w) → w ≡ v
 is_value None v w e = cc
@@ -48,7 +48,7 @@ layout_value : {A : Type 0} (o : Order) (p : Parts A) (bytes : List ℕ) (v : A)
 layout_value o p bytes v e = is_value _ (value o bytes 0 p) v e
 
 mapped : {A B : Type 0} (o : Order) (f : A → B) (p : Parts A) (bytes : List ℕ) (v : B) → layout o (map_parts f p) bytes ≡ Ok v → v ≡ f (value o bytes 0 p)
-mapped o f p bytes v e = layout_value o (map_parts f p) bytes v e ∙ value_mapped o bytes 0 f p
+mapped o f p bytes v e = layout_value o (map_parts f p) bytes v e ∙ value_mapped o bytes f p 0
 
 sample_numbers_are : (format : ℕ) (s : SampleValue) → numbers_by (Some type.Sample) (filled (numbers_under format (records.sample_is s))) ≡ numbers_of (records.sample_is s)
 unfolding filled
@@ -105,14 +105,14 @@ body_reads c o h frame (Err e) f says =
 -- the answer to a frame is the record in its body
 pub answer_body : (c : Configuration) (o : Order) (h : perf_event_header) (bytes : List ℕ) (end : FrameEnd) → 8 ≤ h.size → length bytes ≡ length_after h →
     TakesId o (id_length c h.type_) (id_of_type c h.type_) bytes end → answer_after c o h bytes ≡ layout o (body (under_misc h.misc c) h.type_) end.body.now
-answer_body c o h bytes end sized whole takes =
-    ap (record_in c o h) (room_split c o h bytes sized whole takes.room)
+answer_body c o h bytes end sized long takes =
+    ap (record_in c o h) (room_split c o h bytes sized long takes.room)
     ∙ ap (layout o (body (under_misc h.misc c) h.type_)) (sym takes.body)
 
 -- a frame that has no room for its sample id
 pub answer_none : (c : Configuration) (o : Order) (h : perf_event_header) (bytes : List ℕ) → 8 ≤ h.size → length bytes ≡ length_after h → length bytes < id_length c h.type_ → is_ok (answer_after c o h bytes) ≡ false
-answer_none c o h bytes sized whole little =
-    ap (λ s. is_ok (record_in c o h s)) (split_no_room c o h bytes sized (omega (arith, whole)) (omega (arith, whole, little)))
+answer_none c o h bytes sized long little =
+    ap (λ s. is_ok (record_in c o h s)) (split_no_room c o h bytes sized (omega (arith, long)) (omega (arith, long, little)))
 
 -- the numbers of the record in it
 numbers_answered : (c : Configuration) (o : Order) (h : perf_event_header) (split : Result FrameParts ErrorKind) (r : RecordValue) (format : ℕ) → record_in c o h split ≡ Ok r → numbers_by (type_of h.type_) (filled (numbers_under format r)) ≡ numbers_of r
