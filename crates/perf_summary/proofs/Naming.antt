@@ -1,6 +1,7 @@
 -- Lines of counts one after another.
 use Rattle.std.proofs.Common.{◌≡◌, ℕ, zero, suc, ◌+◌, ◌<◌, ◌≤◌, List, [], ◌∷◌, ◌++◌, map, length, take, get_or, refl, sym, ap, ◌∙◌, add-zero, zero-add, append-nil, append_assoc, arith}
-use Rattle.std.proofs.lemmas.List.{take_more, length-take-le, length-map, get_or_default}
+use Rattle.std.specs.Prelude.{count_by}
+use Rattle.std.proofs.lemmas.List.{take_more, length-take-le}
 use Rattle.perf_file.specs.Names.{Name, name_view, name_text}
 use Rattle.perf_file.specs.Opened.{FileEvent, event_view}
 use Rattle.perf_file.specs.declared.events.Event.{Event}
@@ -14,10 +15,6 @@ use Rattle.perf_summary.specs.declared.counts.EventCount.{EventCount}
 
 -- ---- events
 
--- the line of an event with these counts
-own_line : List EventCount → ℕ → Event → List ℕ
-own_line counts n e = event_line n (get_or counts n no_count) (name_text (name_view e.name))
-
 own_append : (counts : List EventCount) (first : ℕ) (xs ys : List Event) → own_event_lines counts first (xs ++ ys) ≡ own_event_lines counts first xs ++ own_event_lines counts (first + length xs) ys
 own_append counts first [] ys = ap (λ n. own_event_lines counts n ys) (sym (add-zero first))
 own_append counts first (x ∷ xs) ys =
@@ -27,18 +24,16 @@ own_append counts first (x ∷ xs) ys =
     ∙ sym (append_assoc here (own_event_lines counts (first + 1) xs) (own_event_lines counts (first + length (x ∷ xs)) ys))
 
 -- one more line
-pub own_more : (counts : List EventCount) (events : List Event) (i : ℕ) (e : Event) (c : EventCount) → i < length events → length counts ≡ length events → e ≡ get_or events i e → c ≡ get_or counts i c →
-    own_event_lines counts 0 (take (i + 1) events) ≡ own_event_lines counts 0 (take i events) ++ event_line i c (name_text (name_view e.name))
-own_more counts events i e c below same is counted =
+pub own_more : (counts : List EventCount) (events : List Event) (i : ℕ) (e : Event) → i < length events → e ≡ get_or events i e →
+    own_event_lines counts 0 (take (i + 1) events) ≡ own_event_lines counts 0 (take i events) ++ event_line i (get_or counts i no_count) (name_text (name_view e.name))
+own_more counts events i e below is =
     let n : length (take i events) ≡ i = length-take-le i events (omega arith) in
-    let here : get_or counts i no_count ≡ c = get_or_default counts i no_count c (omega arith) ∙ sym counted in
     ap (own_event_lines counts 0) (take_more events i e below)
     ∙ own_append counts 0 (take i events) (get_or events i e ∷ [])
     ∙ ap (λ rest. own_event_lines counts 0 (take i events) ++ rest)
     (ap (λ n. own_event_lines counts n (get_or events i e ∷ [])) (zero-add (length (take i events)) ∙ n)
     ∙ append-nil (event_line i (get_or counts i no_count) (name_text (name_view (get_or events i e).name)))
-    ∙ ap (λ k. event_line i k (name_text (name_view (get_or events i e).name))) here
-    ∙ ap (λ (k : Event). event_line i c (name_text (name_view k.name))) (sym is))
+    ∙ ap (λ (k : Event). event_line i (get_or counts i no_count) (name_text (name_view k.name))) (sym is))
 
 -- the lines of events that have these names and these counts
 named_alike : (naming : ℕ → FileEvent → Name) (cs : ℕ → EventCount) (counts : List EventCount) (first : ℕ) (events : List Event) →
@@ -63,10 +58,10 @@ named_alike naming cs counts first (e ∷ es) named counted =
 -- ---- types
 
 -- one more line
-pub types_more : (counts : List ℕ) (i count : ℕ) → i < length counts → count ≡ get_or counts i count → own_type_lines counts (i + 1) ≡ own_type_lines counts i ++ type_line i count
-types_more counts i count below is =
+pub types_more : (counts : List ℕ) (i : ℕ) → own_type_lines counts (i + 1) ≡ own_type_lines counts i ++ type_line i (get_or counts i 0)
+types_more counts i =
     let next : i + 1 ≡ suc i = omega arith in
-    ap (own_type_lines counts) next ∙ ap (λ n. own_type_lines counts i ++ type_line i n) (get_or_default counts i 0 count below ∙ sym is)
+    ap (own_type_lines counts) next
 
 types_alike : (f g : ℕ → ℕ) (n : ℕ) → ((ty : ℕ) → ty < n → f ty ≡ g ty) → type_lines f n ≡ type_lines g n
 types_alike f g zero same = refl
@@ -76,21 +71,30 @@ types_alike f g (suc n) same =
 
 -- ---- all
 
+-- four texts, appended one after another
+pub four_more : (old a b d e s t u v : List ℕ) → s ≡ old ++ a → t ≡ s ++ b → u ≡ t ++ d → v ≡ u ++ e → v ≡ old ++ (a ++ (b ++ (d ++ e)))
+four_more old a b d e s t u v first second third fourth =
+    fourth ∙ ap (λ x. x ++ e) (third ∙ ap (λ x. x ++ d) (second ∙ ap (λ x. x ++ b) first))
+    ∙ append_assoc ((old ++ a) ++ b) d e
+    ∙ append_assoc (old ++ a) b (d ++ e)
+    ∙ append_assoc old a (b ++ (d ++ e))
+
 pub text_alike : (naming : ℕ → FileEvent → Name) (events : List Event) (xs : List Contents) (c : Counts) → AreCounts (length events) xs c →
     ((n : ℕ) (d : Event) → n < length events → name_view (get_or events n d).name ≡ naming n (event_view (get_or events n d))) →
     own_text events c ≡ counts_text naming (map event_view events) xs
 text_alike naming events xs c are named =
     let cs : ℕ → EventCount = λ n. event_count (of_event n xs) in
     let ts : ℕ → ℕ = λ ty. type_count ty xs in
+    let refused : ℕ = count_by is_refused xs in
     let lines : List ℕ = event_lines naming cs 0 (map event_view events) in
     let frames : frames_line c.frames c.refused ≡ frames_line (length xs) c.refused = ap (λ n. frames_line n c.refused) are.frames in
     let types : own_type_lines c.types.items (length c.types.items) ≡ type_lines ts 128 =
     ap (own_type_lines c.types.items) are.type_number ∙ types_alike (λ ty. get_or c.types.items ty 0) ts 128 (λ ty lt. are.types ty 0 lt) in
     ap (λ a. a ++ own_event_lines c.events.items 0 events ++ own_type_lines c.types.items (length c.types.items) ++ other_line c.other_types)
     (frames ∙ ap (frames_line (length xs)) are.refused)
-    ∙ ap (λ a. frames_line (length xs) _ ++ a ++ own_type_lines c.types.items (length c.types.items) ++ other_line c.other_types)
+    ∙ ap (λ a. frames_line (length xs) refused ++ a ++ own_type_lines c.types.items (length c.types.items) ++ other_line c.other_types)
     (named_alike naming cs c.events.items 0 events
     (λ n d lt. named n d lt ∙ ap (λ k. naming k (event_view (get_or events n d))) (sym (zero-add n)))
     (λ n lt. ap (λ k. get_or c.events.items k no_count) (zero-add n) ∙ are.events n no_count lt ∙ ap cs (sym (zero-add n))))
-    ∙ ap (λ a. frames_line (length xs) _ ++ lines ++ a ++ other_line c.other_types) types
-    ∙ ap (λ a. frames_line (length xs) _ ++ lines ++ type_lines ts 128 ++ other_line a) are.other_types
+    ∙ ap (λ a. frames_line (length xs) refused ++ lines ++ a ++ other_line c.other_types) types
+    ∙ ap (λ a. frames_line (length xs) refused ++ lines ++ type_lines ts 128 ++ other_line a) are.other_types

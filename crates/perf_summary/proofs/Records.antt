@@ -23,7 +23,20 @@ use Rattle.perf_records.specs.declared.frame_end.FrameEnd.{FrameEnd}
 use Rattle.perf_records.specs.declared.record_type.RecordType.{RecordType}
 use Rattle.perf_records.specs.declared.record_type.RecordType.TheVariants as type
 use Rattle.perf_records.proofs.Splits.{split_no_room}
-use Rattle.perf_sample_types.specs.Sample.{SampleValue}
+use Rattle.perf_base.specs.FieldWords.{all_left}
+use Rattle.perf_types.specs.Mmap.{mmap}
+use Rattle.perf_types.specs.Numbers.{lost, exit, throttle, aux, itrace_start, lost_samples, bpf_event, aux_output_hw_id}
+use Rattle.perf_types.specs.Comm.{comm}
+use Rattle.perf_types.specs.declared.numbers.Lost.{Lost}
+use Rattle.perf_types.specs.declared.numbers.LostSamples.{LostSamples}
+use Rattle.perf_types.specs.Read.{read}
+use Rattle.perf_types.specs.Mmap2.{mmap2}
+use Rattle.perf_types.specs.SwitchCpuWide.{switch_cpu_wide}
+use Rattle.perf_types.specs.Namespaces.{namespaces}
+use Rattle.perf_types.specs.KSymbol.{ksymbol}
+use Rattle.perf_types.specs.CGroup.{cgroup}
+use Rattle.perf_types.specs.TextPoke.{text_poke}
+use Rattle.perf_sample_types.specs.Sample.{SampleValue, sample}
 use Rattle.perf_flat.specs.Arrays.{filled}
 use Rattle.perf_flat.specs.Flat.{numbers_under, kind_code}
 use Rattle.perf_flat.specs.FlatBodies.{StatesBody}
@@ -54,35 +67,42 @@ sample_numbers_are : (format : ℕ) (s : SampleValue) → numbers_by (Some type.
 unfolding filled
 sample_numbers_are format s = refl
 
+lost_numbers_are : (format : ℕ) (r : Lost) → numbers_by (Some type.Lost) (filled (numbers_under format (records.lost_is r))) ≡ numbers_of (records.lost_is r)
+unfolding filled
+lost_numbers_are format r = refl
+
+lost_samples_are : (format : ℕ) (r : LostSamples) → numbers_by (Some type.LostSamples) (filled (numbers_under format (records.lost_samples_is r))) ≡ numbers_of (records.lost_samples_is r)
+unfolding filled
+lost_samples_are format r = refl
+
 -- the numbers that are counted are among those of the flat frame
 pub numbers_agree : (c : Configuration) (o : Order) (ty : ℕ) (bytes : List ℕ) (format : ℕ) (kind : Option RecordType) (v : RecordValue) →
     layout o (body_of_type c ty kind) bytes ≡ Ok v → numbers_by kind (filled (numbers_under format v)) ≡ numbers_of v
-unfolding filled
 numbers_agree c o ty bytes format (Some type.Sample) v e =
-    subst (λ r. numbers_by (Some type.Sample) (filled (numbers_under format r)) ≡ numbers_of r) (sym (mapped o records.sample_is _ bytes v e)) (sample_numbers_are format _)
+    subst (λ r. numbers_by (Some type.Sample) (filled (numbers_under format r)) ≡ numbers_of r) (sym (mapped o records.sample_is (sample c) bytes v e)) (sample_numbers_are format (value o bytes 0 (sample c)))
 numbers_agree c o ty bytes format (Some type.Lost) v e =
-    subst (λ r. numbers_by (Some type.Lost) (filled (numbers_under format r)) ≡ numbers_of r) (sym (mapped o records.lost_is _ bytes v e)) refl
+    subst (λ r. numbers_by (Some type.Lost) (filled (numbers_under format r)) ≡ numbers_of r) (sym (mapped o records.lost_is lost bytes v e)) (lost_numbers_are format (value o bytes 0 lost))
 numbers_agree c o ty bytes format (Some type.LostSamples) v e =
-    subst (λ r. numbers_by (Some type.LostSamples) (filled (numbers_under format r)) ≡ numbers_of r) (sym (mapped o records.lost_samples_is _ bytes v e)) refl
-numbers_agree c o ty bytes format (Some type.Mmap) v e = sym (ap numbers_of (mapped o records.mmap_is _ bytes v e))
-numbers_agree c o ty bytes format (Some type.Comm) v e = sym (ap numbers_of (mapped o records.comm_is _ bytes v e))
-numbers_agree c o ty bytes format (Some type.Exit) v e = sym (ap numbers_of (mapped o records.exit_is _ bytes v e))
-numbers_agree c o ty bytes format (Some type.Throttle) v e = sym (ap numbers_of (mapped o records.throttle_is _ bytes v e))
-numbers_agree c o ty bytes format (Some type.Unthrottle) v e = sym (ap numbers_of (mapped o records.unthrottle_is _ bytes v e))
-numbers_agree c o ty bytes format (Some type.Fork) v e = sym (ap numbers_of (mapped o records.fork_is _ bytes v e))
-numbers_agree c o ty bytes format (Some type.Read) v e = sym (ap numbers_of (mapped o records.read_is _ bytes v e))
-numbers_agree c o ty bytes format (Some type.Mmap2) v e = sym (ap numbers_of (mapped o records.mmap2_is _ bytes v e))
-numbers_agree c o ty bytes format (Some type.Aux) v e = sym (ap numbers_of (mapped o records.aux_is _ bytes v e))
-numbers_agree c o ty bytes format (Some type.ITraceStart) v e = sym (ap numbers_of (mapped o records.itrace_start_is _ bytes v e))
+    subst (λ r. numbers_by (Some type.LostSamples) (filled (numbers_under format r)) ≡ numbers_of r) (sym (mapped o records.lost_samples_is lost_samples bytes v e)) (lost_samples_are format (value o bytes 0 lost_samples))
+numbers_agree c o ty bytes format (Some type.Mmap) v e = sym (ap numbers_of (mapped o records.mmap_is mmap bytes v e))
+numbers_agree c o ty bytes format (Some type.Comm) v e = sym (ap numbers_of (mapped o records.comm_is comm bytes v e))
+numbers_agree c o ty bytes format (Some type.Exit) v e = sym (ap numbers_of (mapped o records.exit_is exit bytes v e))
+numbers_agree c o ty bytes format (Some type.Throttle) v e = sym (ap numbers_of (mapped o records.throttle_is throttle bytes v e))
+numbers_agree c o ty bytes format (Some type.Unthrottle) v e = sym (ap numbers_of (mapped o records.unthrottle_is throttle bytes v e))
+numbers_agree c o ty bytes format (Some type.Fork) v e = sym (ap numbers_of (mapped o records.fork_is exit bytes v e))
+numbers_agree c o ty bytes format (Some type.Read) v e = sym (ap numbers_of (mapped o records.read_is (read c) bytes v e))
+numbers_agree c o ty bytes format (Some type.Mmap2) v e = sym (ap numbers_of (mapped o records.mmap2_is (mmap2 c) bytes v e))
+numbers_agree c o ty bytes format (Some type.Aux) v e = sym (ap numbers_of (mapped o records.aux_is aux bytes v e))
+numbers_agree c o ty bytes format (Some type.ITraceStart) v e = sym (ap numbers_of (mapped o records.itrace_start_is itrace_start bytes v e))
 numbers_agree c o ty bytes format (Some type.Switch) v e = sym (ap numbers_of (layout_value o (done records.switch_is) bytes v e))
-numbers_agree c o ty bytes format (Some type.SwitchCpuWide) v e = sym (ap numbers_of (mapped o records.switch_cpu_wide_is _ bytes v e))
-numbers_agree c o ty bytes format (Some type.Namespaces) v e = sym (ap numbers_of (mapped o records.namespaces_is _ bytes v e))
-numbers_agree c o ty bytes format (Some type.KSymbol) v e = sym (ap numbers_of (mapped o records.ksymbol_is _ bytes v e))
-numbers_agree c o ty bytes format (Some type.BpfEvent) v e = sym (ap numbers_of (mapped o records.bpf_event_is _ bytes v e))
-numbers_agree c o ty bytes format (Some type.CGroup) v e = sym (ap numbers_of (mapped o records.cgroup_is _ bytes v e))
-numbers_agree c o ty bytes format (Some type.TextPoke) v e = sym (ap numbers_of (mapped o records.text_poke_is _ bytes v e))
-numbers_agree c o ty bytes format (Some type.AuxOutputHwId) v e = sym (ap numbers_of (mapped o records.aux_output_hw_id_is _ bytes v e))
-numbers_agree c o ty bytes format None v e = sym (ap numbers_of (mapped o (records.unknown_is ty) _ bytes v e))
+numbers_agree c o ty bytes format (Some type.SwitchCpuWide) v e = sym (ap numbers_of (mapped o records.switch_cpu_wide_is (switch_cpu_wide c) bytes v e))
+numbers_agree c o ty bytes format (Some type.Namespaces) v e = sym (ap numbers_of (mapped o records.namespaces_is namespaces bytes v e))
+numbers_agree c o ty bytes format (Some type.KSymbol) v e = sym (ap numbers_of (mapped o records.ksymbol_is ksymbol bytes v e))
+numbers_agree c o ty bytes format (Some type.BpfEvent) v e = sym (ap numbers_of (mapped o records.bpf_event_is bpf_event bytes v e))
+numbers_agree c o ty bytes format (Some type.CGroup) v e = sym (ap numbers_of (mapped o records.cgroup_is cgroup bytes v e))
+numbers_agree c o ty bytes format (Some type.TextPoke) v e = sym (ap numbers_of (mapped o records.text_poke_is text_poke bytes v e))
+numbers_agree c o ty bytes format (Some type.AuxOutputHwId) v e = sym (ap numbers_of (mapped o records.aux_output_hw_id_is aux_output_hw_id bytes v e))
+numbers_agree c o ty bytes format None v e = sym (ap numbers_of (mapped o (records.unknown_is ty) all_left bytes v e))
 
 -- ---- the record of a frame
 

@@ -1,6 +1,6 @@
 //! What a frame of a file adds to the counts.
 
-ghost use Rattle.std.specs.Prelude.{◌≡◌, ◌<◌, length, option_map};
+ghost use Rattle.std.specs.Prelude.{◌≡◌, ◌<◌, ◌≤◌, MatchOption, length, option_map, slice_index_or};
 ghost use Rattle.std.specs.Result.{result_ok};
 ghost use Rattle.perf_base.specs.Configuration.{under_misc};
 ghost use Rattle.perf_base.specs.Configured.{configuration_of, endian_of};
@@ -148,12 +148,20 @@ fn time_of(recording: &Recording<'_>, found: &FileFrame<'_>) -> u64
     }
 }
 
+// The event with a number, if there is one.
+fn event_at<'a, 'p>(events: &'a [Event<'p>], number: usize) -> Option<&'a Event<'p>>
+    ensures { MatchOption result (length events.now ≤ number) (λ e. (number < length events.now)
+        × (e.now ≡ slice_index_or events.now number e.now)) }
+{
+    events.get(number)
+}
+
 // The period of the samples of an owner, if they contain none.
 fn fixed_period(recording: &Recording<'_>, owner: Owner) -> Option<u64>
     ensures { result ≡ contents.fixed_period_of (view recording.now) owner }
 {
     match owner {
-        Owner::Event(number) => match recording.events().get(number) {
+        Owner::Event(number) => match event_at(recording.events(), number) {
             Some(event) => fixed_period_of(event),
             None => None,
         },

@@ -1,6 +1,6 @@
 //! The summary of a file as lines of text.
 
-ghost use Rattle.std.specs.Prelude.{◌≡◌, ◌<◌, ◌++◌, ◌||◌, ℕ, Some, not, IfOk, OnOk, length, string_bytes};
+ghost use Rattle.std.specs.Prelude.{◌≡◌, ◌<◌, ◌++◌, ◌||◌, ℕ, Some, not, IfOk, OnOk, length, slice_index_or, string_bytes};
 ghost use Rattle.perf_file.specs.Names.{Name, name_view, name_text};
 ghost use Rattle.perf_file.specs.Opened.{FileEvent};
 ghost use Rattle.perf_file.specs.Pieces.{pieces_of};
@@ -8,6 +8,7 @@ ghost use Rattle.perf_file.specs.Views.{view};
 ghost use Rattle.perf_data_text.specs.OwnNames.{AreNamedBy};
 ghost use Rattle.perf_summary.specs.Counts.{AreCounts};
 ghost use Rattle.perf_summary.specs.OwnLines as own;
+ghost use Rattle.perf_summary.specs.Steps.{no_count};
 ghost use Rattle.perf_summary.specs.SummaryText as texts;
 
 use crate::counting::counts_of;
@@ -59,7 +60,8 @@ fn push_counts(text: &mut String, events: &[Event<'_>], counts: &Counts) -> Resu
     push_frames(text, counts)?;
     push_events(text, events, &counts.events)?;
     push_types(text, &counts.types)?;
-    push_others(text, counts.other_types)
+    push_others(text, counts.other_types)?;
+    Ok(())
 }
 
 // Appends the line of all frames.
@@ -83,9 +85,18 @@ fn push_events(
         ≡ string_bytes text.old ++ own.own_event_lines counts.now 0 events.now) }
 {
     for index in 0..events.len() {
-        push_event(text, index, &events[index], &counts[index])?;
+        let count = count_at(counts, index);
+        push_event(text, index, &events[index], &count)?;
     }
     Ok(())
+}
+
+// The counts at an index.
+fn count_at(counts: &[EventCount], index: usize) -> EventCount
+    requires { index < length counts.now }
+    ensures { result ≡ slice_index_or counts.now index no_count }
+{
+    counts[index]
 }
 
 // A time, which may not be known.

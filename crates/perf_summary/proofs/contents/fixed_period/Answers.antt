@@ -13,8 +13,8 @@ returns-in-Some c =
     let items = c.args.recording.now.events.items in
     let n = c.in-Event.number in
     let e = c.in-Some.event.now in
-    let lt : n < length items = subst (λ (xs : List Event). n < length xs) c.events.ensures.are c.in-Some.ensures.lookup.0 in
-    let same : e ≡ get_or items n e = subst (λ (xs : List Event). e ≡ get_or xs n e) c.events.ensures.are c.in-Some.ensures.lookup.1 in
+    let lt : n < length items = subst (λ (xs : List Event). n < length xs) c.events.ensures.are c.in-Some.ensures.0 in
+    let same : e ≡ get_or items n e = subst (λ (xs : List Event). e ≡ get_or xs n e) c.events.ensures.are c.in-Some.ensures.1 in
     c.fixed_period_of.ensures
     ∙ ap (λ (x : Event). fixed_period (event_view x)) same
     ∙ ap (λ (o : Option FileEvent). option_and_then fixed_period o) (sym (event_there items n e lt))
@@ -24,6 +24,6 @@ pub returns-in-None : goal.returns-in-None
 returns-in-None c =
     let items = c.args.recording.now.events.items in
     let n = c.in-Event.number in
-    let le : length items ≤ n = subst (λ (xs : List Event). length xs ≤ n) c.events.ensures.are c.in-None.ensures.lookup in
+    let le : length items ≤ n = subst (λ (xs : List Event). length xs ≤ n) c.events.ensures.are c.in-None.ensures in
     ap (λ (o : Option FileEvent). option_and_then fixed_period o) (sym (event_absent items n le))
     ∙ ap (fixed_period_of (view c.args.recording.now)) (sym c.in-Event.is)

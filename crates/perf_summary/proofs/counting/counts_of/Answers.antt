@@ -29,4 +29,4 @@ pub returns : goal.returns
 returns c =
     let f = view c.args.recording.now in
     let small : length f.frames < 2 ^ 64 = omega (arith, c.args.recording.now.inside) in
-    way_end f (pieces (view c.loop-found.found-iterator.recording.now) c.loop-found.found-iterator.left.now) c.loop-found.counts small c.loop-found.invariant c.in-None.ensures.steps
+    way_end f (pieces (view c.loop-found.found-iterator.recording.now) c.loop-found.found-iterator.left.now) c.loop-found.counts small c.loop-found.invariant c.in-None.ensures.steps.0
