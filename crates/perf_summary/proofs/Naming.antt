@@ -72,12 +72,11 @@ types_alike f g (suc n) same =
 -- ---- all
 
 -- four texts, appended one after another
-pub four_more : (old a b d e s t u v : List ℕ) → s ≡ old ++ a → t ≡ s ++ b → u ≡ t ++ d → v ≡ u ++ e → v ≡ old ++ (a ++ (b ++ (d ++ e)))
+pub four_more : (old a b d e s t u v : List ℕ) → s ≡ old ++ a → t ≡ s ++ b → u ≡ t ++ d → v ≡ u ++ e → v ≡ old ++ (((a ++ b) ++ d) ++ e)
 four_more old a b d e s t u v first second third fourth =
-    fourth ∙ ap (λ x. x ++ e) (third ∙ ap (λ x. x ++ d) (second ∙ ap (λ x. x ++ b) first))
-    ∙ append_assoc ((old ++ a) ++ b) d e
-    ∙ append_assoc (old ++ a) b (d ++ e)
-    ∙ append_assoc old a (b ++ (d ++ e))
+    let two : t ≡ old ++ (a ++ b) = second ∙ ap (λ x. x ++ b) first ∙ append_assoc old a b in
+    let three : u ≡ old ++ ((a ++ b) ++ d) = third ∙ ap (λ x. x ++ d) two ∙ append_assoc old (a ++ b) d in
+    fourth ∙ ap (λ x. x ++ e) three ∙ append_assoc old ((a ++ b) ++ d) e
 
 pub text_alike : (naming : ℕ → FileEvent → Name) (events : List Event) (xs : List Contents) (c : Counts) → AreCounts (length events) xs c →
     ((n : ℕ) (d : Event) → n < length events → name_view (get_or events n d).name ≡ naming n (event_view (get_or events n d))) →

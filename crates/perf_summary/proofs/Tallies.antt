@@ -98,11 +98,10 @@ tally_of_event : (n : ℕ) (xs : List Contents) (x : Contents) → tally (of_eve
 tally_of_event n xs x =
     let b : Bool = is_number x.event n in
     ap tally (filter-append (λ (y : Contents). is_number y.event n) xs (x ∷ [])) ∙ by_event b
-
   where
-  by_event : (b : Bool) → tally (of_event n xs ++ cond b (x ∷ []) []) ≡ (if b then with_frame (tally (of_event n xs)) x else tally (of_event n xs))
-  by_event true = tally_more (of_event n xs) x
-  by_event false = ap tally (append-nil (of_event n xs))
+    by_event : (b : Bool) → tally (of_event n xs ++ cond b (x ∷ []) []) ≡ (if b then with_frame (tally (of_event n xs)) x else tally (of_event n xs))
+    by_event true = tally_more (of_event n xs) x
+    by_event false = ap tally (append-nil (of_event n xs))
 
 -- ---- of all
 
@@ -159,11 +158,10 @@ tallied_more number xs x c d so_far adds = record {
 few_left : (p : Contents → Bool) (xs : List Contents) → length (filter p xs) ≤ length xs
 few_left p [] = omega arith
 few_left p (x ∷ xs) = few_by (p x) (few_left p xs)
-
   where
-  few_by : (b : Bool) → length (filter p xs) ≤ length xs → length (cond b (x ∷ filter p xs) (filter p xs)) ≤ suc (length xs)
-  few_by true few = omega (arith, few)
-  few_by false few = omega (arith, few)
+    few_by : (b : Bool) → length (filter p xs) ≤ length xs → length (cond b (x ∷ filter p xs) (filter p xs)) ≤ suc (length xs)
+    few_by true few = omega (arith, few)
+    few_by false few = omega (arith, few)
 
 -- of fewer than 2^64 frames nothing is lost
 tally_whole : (xs : List Contents) → length xs < 2 ^ 64 → tally xs ≡ event_count xs

@@ -32,7 +32,7 @@ is_machine_refused order bytes =
 -- the line of all frames: how many there are, and how many are refused
 abbrev pub frames_line : (frames refused : ℕ) → List ℕ
 frames_line frames refused =
-    codes "file frames=" ++ decimal frames ++ codes " refused=" ++ decimal refused ++ codes "\n"
+    codes "file frames=" ++ (decimal frames ++ (codes " refused=" ++ (decimal refused ++ codes "\n")))
 
 -- a time, `-` if it is not known
 abbrev pub time_text : Option ℕ → List ℕ
