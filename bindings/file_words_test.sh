@@ -39,6 +39,7 @@ check() {
 # A file that cannot be opened: refuses MESSAGE FILE
 refuses() {
     check 2 /dev/null events "$2"
+    check 2 /dev/null summary "$2"
     check 2 /dev/null dump "$2"
     [ "$(cat "$work/found.err")" = "perf_data: $2: $1" ] || {
         failed=$((failed + 1))
@@ -107,6 +108,61 @@ header machine "$examples/machine.data" machine.data -a -e cpu-clock/freq=1000/ 
 header group "$examples/group.data" group.data -e '{task-clock,page-faults}:S' -c 250000 -- ls -l /usr/bin
 header events "$examples/big-endian.data"
 check 0 "$examples/killed.events" events --header "$examples/killed.data"
+
+# What is counted, as awk counts it in the lines of frames, which perf has read. A sample that contains no period has that of
+# its event, which is what `perf record` was given: summary NAME FILE HEADER PERIOD ..
+summary() {
+    name=$1 file_of_it=$2 head=$3
+    shift 3
+    {
+        printf '%s' "$head"
+        awk -v fixed="$*" '
+            BEGIN {
+                split(fixed, period_of, " ")
+                split("MMAP LOST COMM EXIT THROTTLE UNTHROTTLE FORK READ SAMPLE MMAP2 AUX ITRACE_START LOST_SAMPLES SWITCH SWITCH_CPU_WIDE NAMESPACES KSYMBOL BPF_EVENT CGROUP", names, " ")
+                split("ATTR EVENT_TYPE TRACING_DATA BUILD_ID FINISHED_ROUND ID_INDEX AUXTRACE_INFO AUXTRACE AUXTRACE_ERROR THREAD_MAP CPU_MAP STAT_CONFIG STAT STAT_ROUND EVENT_UPDATE TIME_CONV FEATURE COMPRESSED FINISHED_INIT", own, " ")
+            }
+            function number(name, absent) { return match($0, " " name "=[0-9]+") ? substr($0, RSTART + length(name) + 2, RLENGTH - length(name) - 2) : absent }
+            NR == FNR { events++; number_of[events] = $1; sub(/ type=.*/, ""); sub(/^[0-9]+ /, ""); event[events] = $0; next }
+            { frames++; types[$4]++ }
+            $7 == "refused" { refused++; if ($3 ~ /^[0-9]+$/) of_event[$3]++; next }
+            $4 == 2 || $4 == 13 { lost[$3] += number("lost", 0) }
+            $4 == 9 {
+                samples[$3]++
+                period[$3] += number("period", period_of[$3 + 1])
+                time = number("time", "-")
+                if (!($3 in first) || time < first[$3]) first[$3] = time
+                if (!($3 in last) || time > last[$3]) last[$3] = time
+            }
+            END {
+                printf "file frames=%d refused=%d\n", frames, refused
+                for (i = 1; i <= events; i++) {
+                    e = number_of[i]
+                    printf "event %s samples=%d period=%d first=%s last=%s lost=%.0f refused=%d %s\n", e, samples[e], period[e], e in first ? first[e] : "-", e in last ? last[e] : "-", lost[e], of_event[e], event[i]
+                }
+                for (ty = 0; ty < 128; ty++)
+                    if (ty in types) printf "type %d frames=%d %s\n", ty, types[ty], ty < 64 ? names[ty] : own[ty - 63]
+            }' "$examples/$name.events" "${dump:-$examples/$name.dump}"
+    } >"$work/output"
+    check "${status_of_it:-0}" "$work/output" summary "$file_of_it"
+}
+stated() { printf '# hostname : vm\n# os release : 6.18.44-fc-v595\n# cmdline : /usr/bin/perf record -q -B -o'; printf ' %s' "$@"; printf '\n.'; }
+three='-e task-clock/period=2000000/ -e page-faults/period=7,call-graph=fp/ -e context-switches/period=1/ --namespaces -- sh -c '
+script='ls / >/dev/null\x0a        date > /dev/null\x0a        sleep 0.01 & wait'
+head_of_events=$(stated events.data "$three$script")
+summary events "$file" "${head_of_events%.}" 2000000 7 1
+head_of_it=$(stated - "$three$script")
+summary pipe "$examples/pipe.data" "${head_of_it%.}" 2000000 7 1
+head_of_it=$(stated machine.data -a -e cpu-clock/freq=1000/ -- sh -c 'ls / > /dev/null\x0a        sleep 0.01')
+summary machine "$examples/machine.data" "${head_of_it%.}" 0 0
+head_of_it=$(stated group.data -e '{task-clock,page-faults}:S' -c 250000 -- ls -l /usr/bin)
+summary group "$examples/group.data" "${head_of_it%.}" 250000 250000
+summary killed "$examples/killed.data" '' 3 3
+summary events "$examples/big-endian.data" '# hostname : vm
+' 2000000 7 1
+input=$file
+check 0 "$work/output" summary "$examples/big-endian.data"
+input=/dev/null
 
 # A bad feature: the length of the name of the machine is the first number of the first feature, whose offset is the first
 # number after the data. Then the offset is beyond the file.
@@ -185,11 +241,11 @@ printf 'a 18446744073709551615\nb 1' >"$work/damaged"
 tells "$work/damaged: the counts have a sum of 2^64 or more: leave lines out" flame --folded "$work/damaged"
 
 # Other words, and help.
-for words in '' events dump other 'events one two' 'dump one two' 'dump --order' 'dump --order size one' 'events --order time one' 'dump --header one' '--all' 'dump --all one' fold flame 'fold --merge' 'fold one two' 'flame --folded one two' 'flame --merge one'; do
+for words in '' events dump summary other 'events one two' 'summary one two' 'summary --header one' 'dump one two' 'dump --order' 'dump --order size one' 'events --order time one' 'dump --header one' '--all' 'dump --all one' fold flame 'fold --merge' 'fold one two' 'flame --folded one two' 'flame --merge one'; do
     # shellcheck disable=SC2086  # these are several words
     check 2 /dev/null $words
 done
-for words in --help 'events --help' 'dump --help' 'fold --help' 'flame --help'; do
+for words in --help 'events --help' 'dump --help' 'summary --help' 'fold --help' 'flame --help'; do
     # shellcheck disable=SC2086
     "${program[@]}" $words >"$work/found.out" 2>"$work/found.err" && [ -s "$work/found.out" ] && ! [ -s "$work/found.err" ] || {
         failed=$((failed + 1))
@@ -200,13 +256,15 @@ done
 
 # No file, an output that is full.
 check 3 /dev/null events "$work/absent"
-"${program[@]}" dump "$file" >/dev/full 2>"$work/found.err"
-found=$?
-tried=$((tried + 1))
-[ $found = 3 ] && [ -s "$work/found.err" ] || {
-    failed=$((failed + 1))
-    echo "FAILED: status $found, not 3, of a full output"
-}
+for words in dump summary; do
+    "${program[@]}" $words "$file" >/dev/full 2>"$work/found.err"
+    found=$?
+    tried=$((tried + 1))
+    [ $found = 3 ] && [ -s "$work/found.err" ] || {
+        failed=$((failed + 1))
+        echo "FAILED: status $found, not 3, of a full output"
+    }
+done
 
 # No file of perf record.
 refuses 'this is no perf.data file: pass a file that `perf record` has written' /dev/null
@@ -224,24 +282,44 @@ read -r number at _ < <(tail -n 1 "$examples/events.dump")
 read -r before place _ _ _ size _ < <(tail -n 2 "$examples/events.dump")
 head -n $((lines - 1)) "$examples/events.dump" >"$work/without_last"
 head -n $((lines - 2)) "$examples/events.dump" >"$work/without_two"
+tail -n 2 "$examples/events.dump" >"$work/last_two"
+
+# The summary of a damaged copy, by its lines of frames: damaged_summary STATUS NAME DUMP
+damaged_summary() {
+    cp "$3" "$work/dump"
+    status_of_it=$1 dump=$work/dump summary "$2" "$work/damaged" "${head_of_events%.}" 2000000 7 1
+}
 
 # As a SWITCH it is too short for an id.
 cp "$file" "$work/damaged"
 damage "$at" '\16'
 { cat "$work/without_last"; echo "$number $at ? 14 0 8 refused NoId"; } >"$work/output"
 check 1 "$work/output" dump "$work/damaged"
+damaged_summary 1 events "$work/output"
 
 # An id that no event has is at the end of the EXIT.
 cp "$file" "$work/damaged"
 damage $((at - 8)) '\377\377\377\377\377\377\377\177'
 { cat "$work/without_two"; echo "$before $place ?9223372036854775807 4 0 $size refused UnknownId"; tail -n 1 "$examples/events.dump"; } >"$work/output"
 check 1 "$work/output" dump "$work/damaged"
+damaged_summary 1 events "$work/output"
 
 # As AUXTRACE, which announces the bytes after it, it announces more than there are.
 cp "$file" "$work/damaged"
 damage "$place" '\107'
 { cat "$work/without_two"; echo "$before $place - 71 0 $size refused Eof"; } >"$work/output"
 check 1 "$work/output" dump "$work/damaged"
+damaged_summary 1 events "$work/output"
+
+# As LOST the EXIT tells of its second number of eight bytes, as LOST_SAMPLES of the first.
+task=$(sed -n 's/.* Exit pid=\([0-9]*\) ppid=\([0-9]*\) .*/\1 + (\2 << 32)/p' "$work/last_two")
+cp "$file" "$work/damaged"
+damage "$place" '\2'
+{ cat "$work/without_two"; echo "$before $place 0 2 0 $size Lost id=0 lost=$((task))"; tail -n 1 "$examples/events.dump"; } >"$work/output"
+damaged_summary 0 events "$work/output"
+damage "$place" '\15'
+{ cat "$work/without_two"; echo "$before $place 0 13 0 $size LostSamples lost=$((task))"; tail -n 1 "$examples/events.dump"; } >"$work/output"
+damaged_summary 0 events "$work/output"
 
 # perf was killed, and the file ends inside the EXIT.
 head -c $((place + 20)) "$file" >"$work/damaged"

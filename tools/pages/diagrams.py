@@ -34,6 +34,7 @@ RETURNS = {
     "perf_lines": "the text of a run",
     "perf_reports": "lines of tasks and samples, counts",
     "perf_data_text": "the text of a perf.data file",
+    "perf_summary": "what is counted in one",
     "perf_data": "that text",
     "perfrec": "a line for each frame",
     "perf_tasks": "lines about tasks",

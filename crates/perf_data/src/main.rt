@@ -3,7 +3,9 @@
 //! `perf_data events FILE` prints a line for each event, with `--header` after lines of what perf states
 //! about the machine and the command. `perf_data dump FILE` prints a line for each
 //! frame in the order of the file, with `--order time` by time: what the line of `perfrec` has, and
-//! after its number the offset of the frame in the file and its event. `perf_data fold --merge FILE ..`
+//! after its number the offset of the frame in the file and its event. `perf_data summary FILE` prints
+//! what is counted: a line of all frames, one for each event, and one for each type of record, after lines
+//! of what perf states about the machine and the command. `perf_data fold --merge FILE ..`
 //! adds up folded stacks, and `perf_data flame --folded FILE` draws a flame graph of them, with
 //! `--inverted` from the innermost frames on. A FILE of `-` is standard
 //! input. The whole file is read into memory, and all of its text is made before any is written; of a
@@ -74,6 +76,9 @@ fn program<'a>(alloc: Global) -> Result<Command<'a>, AllocError> {
         .about("Prints a line for each frame")
         .arg(order)?
         .arg(file_word(alloc))?;
+    let summary = Command::new(alloc, "summary")
+        .about("Prints what is counted of each event and of each type of record")
+        .arg(file_word(alloc))?;
     Command::new(alloc, "perf_data")
         .about("Prints what is inside a file of `perf record`.")
         .after_help(STATUSES)
@@ -81,6 +86,7 @@ fn program<'a>(alloc: Global) -> Result<Command<'a>, AllocError> {
         .disable_help_subcommand(true)
         .subcommand(events)?
         .subcommand(dump)?
+        .subcommand(summary)?
         .subcommand(folding::fold_words(alloc)?)?
         .subcommand(folding::flame_words(alloc)?)
 }
@@ -133,7 +139,11 @@ fn show_file(rt: &HostRuntime, command: &str, words: &ArgMatches<'_>) -> io::Res
     let bytes = bytes_of(rt, path)?;
     note_progress(rt, path, bytes.len())?;
     let mut output = rt.stdout();
-    let ended = run(rt.alloc(), &bytes, &mut output, shown(command, words));
+    let ended = if command == "summary" {
+        perf_summary::run::run(rt.alloc(), &bytes, &mut output)
+    } else {
+        run(rt.alloc(), &bytes, &mut output, shown(command, words))
+    };
     report(rt, path, &ended)?;
     Ok(status_after(&ended))
 }

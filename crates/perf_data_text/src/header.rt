@@ -41,8 +41,9 @@ fn push_refused(text: &mut String, name: &str) -> Result<(), AllocError>
     write!(text, "# {name} refused\n")
 }
 
-// Appends the line of a text, and returns whether it is refused.
-fn push_text(
+/// Appends the line of a text, and returns whether it is refused: its name and the text, or nothing if the
+/// file does not have it.
+pub fn push_text(
     text: &mut String,
     name: &str,
     found: Result<Option<&[u8]>, BadFeature>,
@@ -86,8 +87,9 @@ fn push_words_line(text: &mut String, line: CommandLine<'_>) -> Result<(), Alloc
     Ok(())
 }
 
-// Appends the line of the words of the command, and returns whether they are refused.
-fn push_command_line(
+/// Appends the line of the words of the command, and returns whether they are refused: nothing if the file
+/// does not have them.
+pub fn push_command_line(
     text: &mut String,
     found: Result<Option<CommandLine<'_>>, BadFeature>,
 ) -> Result<bool, AllocError>
