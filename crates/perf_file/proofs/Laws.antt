@@ -15,7 +15,7 @@ use Rattle.perf_file.specs.Owners.{owner_of_sight}
 use Rattle.perf_file.specs.Pieces.{Piece, piece_in, place_in, after_piece, after_frame, first_pieces, pieces, drop_most, take_most, size_of, header_seen, payload_length}
 use Rattle.perf_file.specs.declared.owning.Owner.{Owner}
 
-length-drop_most : (n : ℕ) (bytes : List ℕ) → length (drop_most n bytes) ≤ length bytes
+pub length-drop_most : (n : ℕ) (bytes : List ℕ) → length (drop_most n bytes) ≤ length bytes
 length-drop_most n bytes = elim (cases_lt n (length bytes)) [
   | inl lt ↦ let a : nat_lt n (length bytes) ≡ true = lt-ltb n (length bytes) lt in rw a (omega (arith, length-drop n bytes))
   | inr le ↦ let a : nat_lt n (length bytes) ≡ false = le-ltb n (length bytes) le in rw a (omega arith)

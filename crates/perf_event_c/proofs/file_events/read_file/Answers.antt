@@ -3,7 +3,7 @@ use Rattle.perf_file.specs.declared.error.OpenError.{OpenError}
 use Rattle.perf_file.specs.declared.summary.Outline.{Outline}
 use Rattle.perf_file.proofs.InMemory.{outline_refused}
 use Rattle.perf_event_c.specs.Files.{open_code}
-use Rattle.perf_event_c.proofs.file_events.ped_file_events.Goals as goal
+use Rattle.perf_event_c.proofs.file_events.read_file.Goals as goal
 
 pub returns-in-Err-clause-refused : goal.returns-in-Err-clause-refused
 returns-in-Err-clause-refused c e is =
