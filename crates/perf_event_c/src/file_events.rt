@@ -8,9 +8,8 @@ ghost use Rattle.perf_file.specs.Heads.{IsGoodHead};
 ghost use Rattle.perf_file.specs.IdSections.{entry_count};
 ghost use Rattle.perf_file.specs.NoteViews.{note_of};
 ghost use Rattle.perf_file.specs.Opened.{File, opened_file, checked_head};
-ghost use Rattle.perf_file.specs.Opens.{◌>>=◌};
 ghost use Rattle.perf_file.specs.Outlines as outlines;
-ghost use Rattle.perf_file.specs.PipeOutlines.{from_notes, pipe_outline, form_outline};
+ghost use Rattle.perf_file.specs.PipeOutlines.{from_notes, going_on, pipe_outline, form_outline};
 ghost use Rattle.perf_file.specs.Pipes.{FrameNote, is_of, all_frames, noted_attribute, opened_pipe};
 ghost use Rattle.perf_file.specs.declared.error.OpenError.{OpenError};
 ghost use Rattle.perf_file.specs.declared.summary.Outline.{Outline};
@@ -218,7 +217,7 @@ fn put_event(
     ensures read { (rest : List FrameNote) →
         from_notes (noted_attribute order) index (note_of note.now ∷ rest) (λ ats.
         Ok (take index all.old ++ map (events.flat_event order) (zip ats (drop index sections.now))))
-        ≡ (result >>= λ n. from_notes (noted_attribute order) n rest (λ ats.
+        ≡ going_on result (λ n. from_notes (noted_attribute order) n rest (λ ats.
         Ok (take n all.new ++ map (events.flat_event order) (zip ats (drop n sections.now))))) }
     ensures more { IfOk result (λ n.
         n ≡ index + length (filter (is_of 64) (note_of note.now ∷ []))) }

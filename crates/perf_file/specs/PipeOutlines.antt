@@ -11,6 +11,10 @@ use Rattle.perf_file.specs.declared.head.Head.{Head}
 use Rattle.perf_file.specs.declared.section.Section.{Section}
 use Rattle.perf_file.specs.declared.summary.Outline.{Outline}
 
+-- what is made of a result, or its refusal
+abbrev pub going_on : {A B : Type 0} → Result A OpenError → (A → Result B OpenError) → Result B OpenError
+going_on result made = result >>= made
+
 -- what is made of what is found in the notes of attributes among some frames, of which the first has
 -- that number, or the first refusal
 abbrev pub from_notes : {A B : Type 0} → (ℕ → FrameNote → Result A OpenError) → (index : ℕ) → List FrameNote → (List A → Result B OpenError) → Result B OpenError

@@ -5,7 +5,6 @@ ghost use Rattle.std.specs.Prelude.{◌≡◌, ◌≢◌, ◌≤◌, ◌<◌, �
 ghost use Rattle.std.specs.List.{filter};
 ghost use Rattle.perf_file.specs.Filled.{Fills};
 ghost use Rattle.perf_file.specs.NoteViews as views;
-ghost use Rattle.perf_file.specs.Opens.{◌>>=◌};
 ghost use Rattle.perf_file.specs.Outlines.{id_count};
 ghost use Rattle.perf_file.specs.PipeOutlines as outlines;
 ghost use Rattle.perf_file.specs.Pipes as pipes;
@@ -57,7 +56,7 @@ fn count_attribute(
     requires { index + 1 < 2 ^ 64 }
     ensures read { (rest : List FrameNote) → outlines.from_notes (pipes.noted_attribute order) index
         (views.note_of note.now ∷ rest) (λ all. Ok (index + length all))
-        ≡ (result >>= λ n. outlines.from_notes (pipes.noted_attribute order) n rest
+        ≡ outlines.going_on result (λ n. outlines.from_notes (pipes.noted_attribute order) n rest
         (λ all. Ok (n + length all))) }
     ensures more { IfOk result (λ n. n ≤ index + 1) }
 {
@@ -102,7 +101,8 @@ fn count_ids(
         outlines.from_notes (pipes.noted_ids order bytes.now) before.events
         (views.note_of note.now ∷ rest)
         (λ all. Ok (min (before.ids + id_count all) (length bytes.now / 8)))
-        ≡ (result >>= λ n. outlines.from_notes (pipes.noted_ids order bytes.now) n.events rest
+        ≡ outlines.going_on result (λ n.
+        outlines.from_notes (pipes.noted_ids order bytes.now) n.events rest
         (λ all. Ok (min (n.ids + id_count all) (length bytes.now / 8)))) }
     ensures more { IfOk result (λ n. n.events ≤ before.events + 1) }
     ensures few { IfOk result (λ n. n.ids ≤ length bytes.now / 8) }
@@ -193,7 +193,8 @@ fn put_section(
     ensures read { (rest : List FrameNote) →
         outlines.from_notes (pipes.noted_ids order bytes.now) index (views.note_of note.now ∷ rest)
         (λ all. Ok (take index sections.old ++ all))
-        ≡ (result >>= λ n. outlines.from_notes (pipes.noted_ids order bytes.now) n rest
+        ≡ outlines.going_on result (λ n.
+        outlines.from_notes (pipes.noted_ids order bytes.now) n rest
         (λ all. Ok (take n sections.new ++ all))) }
     ensures inside { All (IsInside bytes.now) (take index sections.old) →
         IfOk result (λ n. All (IsInside bytes.now) (take n sections.new)) }
