@@ -217,7 +217,7 @@ named_alike o t k (n ∷ ns) = go (is_note n) refl (is_of 78 n) refl
 pub noted_is : (bytes : List ℕ) (f : File) (order : Dynamic) (all now : List FlatEvent) (ids : List IdOfEvent) → pipe_order bytes ≡ Some order → f.order ≡ order → IsRead bytes f all ids → HaveIds bytes all
     → ((k : ℕ) (d : FlatEvent) → k < length all → flat_name bytes (get_or now k d) ≡ named_by (last_name (order_of order) ids k (all_frames order (drop 16 bytes))) (described_by (order_of order) (or_nothing (noted_feature (order_of order) 12 (all_frames order (drop 16 bytes)))) bytes (get_or all k d)))
     → AreNames bytes f now
-unfolding (event_name, notes_of)
+unfolding event_name notes_of
 noted_is bytes f order all now ids piped is read have named n e x lt =
     let o = order_of order in
     let frames = all_frames order (drop 16 bytes) in

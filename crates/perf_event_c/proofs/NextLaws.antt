@@ -105,7 +105,7 @@ pipe_placed order bytes o f long sketched whole =
 
 -- what is known of a file in either form
 pub is_placed : (bytes : List ℕ) (o : Outline) (f : File) → form_outline bytes ≡ Ok o → opened bytes ≡ Ok f → IsPlaced bytes o.head f
-unfolding (form_outline, opened)
+unfolding form_outline opened
 is_placed bytes o f sketched whole = go (pipe_order bytes) refl sketched whole
   where
     go : (p : Option Dynamic) → pipe_order bytes ≡ p → (elim p [ Some order ↦ pipe_outline order bytes | None ↦ outline bytes ]) ≡ Ok o → (elim p [ Some order ↦ opened_pipe order bytes | None ↦ opened_file bytes ]) ≡ Ok f → IsPlaced bytes o.head f

@@ -1,9 +1,9 @@
 -- Where the bytes of notes are in the file, and what notes of some types do not change.
-use Rattle.std.proofs.Common.{◌≡◌, ℕ, zero, suc, ◌+◌, ◌-◌, ◌≤◌, ◌<◌, ◌&&◌, ◌||◌, ◌==◌, List, [], ◌∷◌, length, map, take, drop, Bool, true, false, cond, Option, Some, None, All, nat_lt, nat_eq, inl, inr, refl, sym, ap, subst, ◌∙◌, arith}
+use Rattle.std.proofs.Common.{◌≡◌, ℕ, zero, suc, ◌+◌, ◌-◌, ◌≤◌, ◌<◌, ◌&&◌, ◌||◌, ◌==◌, List, [], ◌∷◌, length, map, take, drop, Bool, true, false, cond, Option, Some, None, All, Ok, nat_lt, nat_le, nat_eq, inl, inr, refl, sym, ap, subst, ◌∙◌, arith}
 use Rattle.std.specs.List.{filter}
 use Rattle.std.proofs.Math.ListN.{drop_of_length-le}
-use Rattle.std.proofs.lemmas.Bool.{lt-ltb, le-ltb, cases_lt}
-use Rattle.std.proofs.lemmas.List.{length-drop, drop-drop, drop-take}
+use Rattle.std.proofs.lemmas.Bool.{lt-ltb, le-ltb, le-leb, ltb-true, cases_lt}
+use Rattle.std.proofs.lemmas.List.{length-drop, drop-drop, drop-take, take-take}
 use Rattle.std.proofs.lemmas.List.Elements.{All-cons}
 use Rattle.perf_base.specs.Dynamic.{order_of}
 use Rattle.perf_base.specs.Layout.{slice}
@@ -11,11 +11,14 @@ use Rattle.perf_base.specs.Order.{Order}
 use Rattle.perf_base.specs.declared.endian.Dynamic.{Dynamic}
 use Rattle.perf_reader.specs.Headers.{frame_length}
 use Rattle.perf_records.specs.Sights.{sight_in}
+use Rattle.perf_file.specs.Descriptions.{zero_at}
+use Rattle.perf_file.specs.Forms.{feature_of, notes_of}
+use Rattle.perf_file.specs.NamePlaces.{name_at}
 use Rattle.perf_file.specs.NotePlaces.{IsPlaced}
 use Rattle.perf_file.specs.Numbers.{number}
 use Rattle.perf_file.specs.Opened.{File}
 use Rattle.perf_file.specs.Pieces.{piece_in, after_piece, after_frame, first_pieces, payload_length, drop_most}
-use Rattle.perf_file.specs.Pipes.{FrameNote, note_in, body_seen, pipe_with, is_of, is_note, all_frames, newer, has_number, own_feature, noted_feature}
+use Rattle.perf_file.specs.Pipes.{FrameNote, note_in, body_seen, pipe_with, is_of, is_note, all_frames, pipe_order, newer, has_number, own_feature, noted_feature, has_name, new_name}
 use Rattle.perf_file.proofs.Laws.{short, first}
 use Rattle.perf_file.proofs.Noted.{body_there}
 
@@ -72,25 +75,99 @@ no_number o feature n off = go (nat_lt (length n.body) 8)
     go true = refl
     go false = rw off refl
 
+is_no_note : (n : FrameNote) (a b c : Bool) → is_of 64 n ≡ a → is_of 67 n ≡ b → is_of 78 n ≡ c → is_of 80 n ≡ true → is_note n ≡ false → ⊥
+is_no_note n a b c x y z on off =
+    let made : is_note n ≡ (a || (b || (c || true))) = ap (λ v. v || (is_of 67 n || (is_of 78 n || is_of 80 n))) x ∙ ap (λ v. a || (v || (is_of 78 n || is_of 80 n))) y ∙ ap (λ v. a || (b || (v || is_of 80 n))) z ∙ ap (λ v. a || (b || (c || v))) on in
+    let yes : is_note n ≡ true = made ∙ all a b c in absurd (cc)
+  where
+    all : (a b c : Bool) → (a || (b || (c || true))) ≡ true
+    all true b c = refl
+    all false true c = refl
+    all false false true = refl
+    all false false false = refl
+
 -- frames that are no notes have no features
 pub noted_alike : (o : Order) (feature : ℕ) (ns : List FrameNote) → noted_feature o feature (filter is_note ns) ≡ noted_feature o feature ns
 noted_alike o feature [] = refl
-noted_alike o feature (n ∷ ns) = go (is_note n) refl (is_of 80 n) refl
+noted_alike o feature (n ∷ ns) = go (noted_alike o feature ns) (is_note n) refl (is_of 80 n) refl
   where
     older : (a : Option (List ℕ)) → newer a None ≡ a
     older (Some x) = refl
     older None = refl
-    go : (b : Bool) → is_note n ≡ b → (c : Bool) → is_of 80 n ≡ c → noted_feature o feature (filter is_note (n ∷ ns)) ≡ noted_feature o feature (n ∷ ns)
-    go true is c on = rw is (ap (λ r. newer r (own_feature o feature n)) (noted_alike o feature ns))
-    go false is false off =
-        let here : filter is_note (n ∷ ns) ≡ filter is_note ns = rw is refl in
-        ap (noted_feature o feature) here ∙ noted_alike o feature ns
+    go : noted_feature o feature (filter is_note ns) ≡ noted_feature o feature ns → (b : Bool) → is_note n ≡ b → (c : Bool) → is_of 80 n ≡ c → noted_feature o feature (filter is_note (n ∷ ns)) ≡ noted_feature o feature (n ∷ ns)
+    go rest true is c on =
+        let here : filter is_note (n ∷ ns) ≡ n ∷ filter is_note ns = ap (λ x. cond x (n ∷ filter is_note ns) (filter is_note ns)) is in
+        ap (noted_feature o feature) here ∙ ap (λ r. newer r (own_feature o feature n)) rest
+    go rest false is false off =
+        let here : filter is_note (n ∷ ns) ≡ filter is_note ns = ap (λ x. cond x (n ∷ filter is_note ns) (filter is_note ns)) is in
+        ap (noted_feature o feature) here ∙ rest
         ∙ sym (ap (newer (noted_feature o feature ns)) (no_number o feature n off) ∙ older (noted_feature o feature ns))
-    go false is true on =
-        let note : is_note n ≡ true = rw on (grind (arith)) in absurd (cc)
+    go rest false is true on = absurd (is_no_note n (is_of 64 n) (is_of 67 n) (is_of 78 n) refl refl refl on is)
+
+-- bytes of a note after some of them
+pub after_skip : (bytes body : List ℕ) (at skip : ℕ) → skip ≤ length body → slice bytes (at + 8) (length body) ≡ body → drop skip body ≡ take (length body - skip) (drop (at + 8 + skip) bytes)
+after_skip bytes body at skip long is =
+    let n : length body ≡ skip + (length body - skip) = omega (arith, long) in
+    ap (drop skip) (sym is) ∙ ap (λ k. drop skip (take k (drop (at + 8) bytes))) n ∙ drop-take skip (length body - skip) (drop (at + 8) bytes) ∙ ap (take (length body - skip)) (drop-drop skip (at + 8) bytes)
 
 -- the bytes of a feature after its number
 pub after_number : (bytes body : List ℕ) (at : ℕ) → 8 ≤ length body → slice bytes (at + 8) (length body) ≡ body → slice bytes (at + 16) (length body - 8) ≡ drop 8 body
-after_number bytes body at long is =
-    let n : length body ≡ 8 + (length body - 8) = omega (arith, long) in
-    sym (ap (drop 8) (sym is) ∙ ap (λ k. drop 8 (take k (drop (at + 8) bytes))) n ∙ drop-take 8 (length body - 8) (drop (at + 8) bytes) ∙ ap (take (length body - 8)) (drop-drop 8 (at + 8) bytes ∙ ap (λ m. drop m bytes) (omega arith)))
+after_number bytes body at long is = sym (after_skip bytes body at 8 long is ∙ ap (λ m. take (length body - 8) (drop m bytes)) (omega arith))
+
+-- a feature of a pipe
+pub pipe_feature : (bytes : List ℕ) (order : Dynamic) (feature : ℕ) → pipe_order bytes ≡ Some order → feature_of bytes feature ≡ Ok (noted_feature (order_of order) feature (all_frames order (drop 16 bytes)))
+unfolding feature_of notes_of
+pipe_feature bytes order feature is = rw is (ap (λ (found : Option (List ℕ)). Ok found) (noted_alike (order_of order) feature (all_frames order (drop 16 bytes))))
+
+-- ---- new names
+
+prefix : (m : ℕ) (xs : List ℕ) → take (length (take m xs)) xs ≡ take m xs
+prefix zero xs = refl
+prefix (suc m) [] = refl
+prefix (suc m) (x ∷ xs) = ap (λ ys. x ∷ ys) (prefix m xs)
+
+short_take : (m : ℕ) (xs : List ℕ) → length (take m xs) ≤ length xs
+short_take zero xs = omega arith
+short_take (suc m) [] = omega arith
+short_take (suc m) (x ∷ xs) = let a = short_take m xs in omega (arith, a)
+
+-- a name has a kind and an id before it, and at least one byte
+pub name_is : (o : Order) (n : FrameNote) → has_name o n ≡ true → (16 ≤ length n.body) × (0 < length (new_name n))
+name_is o n is = elim (cases_lt (length n.body) 16) [
+  | inl lt ↦
+      let a : nat_lt (length n.body) 16 ≡ true = lt-ltb (length n.body) 16 lt in
+      let no : has_name o n ≡ false = ap (λ b. cond b false (is_of 78 n && (number o n.body 0 == 2 && nat_lt 0 (length (new_name n))))) a in absurd (cc)
+  | inr le ↦
+      let a : nat_lt (length n.body) 16 ≡ false = le-ltb (length n.body) 16 le in
+      let rest : (is_of 78 n && (number o n.body 0 == 2 && nat_lt 0 (length (new_name n)))) ≡ true = sym (ap (λ b. cond b false (is_of 78 n && (number o n.body 0 == 2 && nat_lt 0 (length (new_name n))))) a) ∙ is in
+      (le, ltb-true 0 (length (new_name n)) (last (is_of 78 n) (number o n.body 0 == 2) (nat_lt 0 (length (new_name n))) rest))
+]
+  where
+    last : (a b c : Bool) → (a && (b && c)) ≡ true → c ≡ true
+    last true true c is = is
+    last true false c is = absurd (cc)
+    last false b c is = absurd (cc)
+
+-- where a new name is in the file
+pub placed_name : (bytes name : List ℕ) (n : FrameNote) → IsPlaced bytes n → 16 ≤ length n.body → name ≡ new_name n → name_at bytes (record { start = n.at + 24; size = length name }) ≡ Some (new_name n)
+placed_name bytes name n placed long is =
+    let rest : List ℕ = drop (n.at + 24) bytes in
+    let most = length n.body - 16 in
+    let m = zero_at (drop 16 n.body) in
+    let cut : drop 16 n.body ≡ take most rest = after_skip bytes n.body n.at 16 long placed.there ∙ ap (λ i. take most (drop i bytes)) (omega arith) in
+    let own : name ≡ take m (take most rest) = is ∙ ap (take m) cut in
+    let k : length name ≡ length (take m (take most rest)) = ap (λ (xs : List ℕ). length xs) own in
+    let few = short_take m (take most rest) in
+    let less : length (take most rest) ≤ most = short_most most rest in
+    let same : take (length name) rest ≡ new_name n =
+    sym (take-take (length name) most rest (omega (arith, k, few, less))) ∙ ap (λ i. take i (take most rest)) k ∙ prefix m (take most rest) ∙ ap (take m) (sym cut) in
+    let a : nat_eq (n.at + 24) 0 ≡ false = not_zero n.at in
+    let b : nat_le (n.at + 24 + length name) (length bytes) ≡ true = le-leb (n.at + 24 + length name) (length bytes) (omega (arith, placed.inside, long, k, few, less)) in
+    rw (a, b) (ap (λ (xs : List ℕ). Some xs) same)
+  where
+    short_most : (i : ℕ) (xs : List ℕ) → length (take i xs) ≤ i
+    short_most zero xs = omega arith
+    short_most (suc i) [] = omega arith
+    short_most (suc i) (x ∷ xs) = let a = short_most i xs in omega (arith, a)
+    not_zero : (i : ℕ) → nat_eq (i + 24) 0 ≡ false
+    not_zero i = grind (arith)

@@ -1,7 +1,7 @@
 -- Notes of attributes read one after another, and the events that they are.
-use Rattle.std.proofs.Common.{◌≡◌, ℕ, zero, suc, ◌+◌, ◌-◌, ◌*◌, ◌/◌, ◌%◌, ◌≤◌, ◌<◌, ◌==◌, List, [], ◌∷◌, length, map, take, drop, Bool, true, false, not, Result, Ok, Err, nat_lt, inl, inr, refl, sym, ap, subst, ◌∙◌, arith}
+use Rattle.std.proofs.Common.{◌≡◌, ℕ, zero, suc, ◌+◌, ◌-◌, ◌*◌, ◌/◌, ◌%◌, ◌≤◌, ◌<◌, ◌==◌, List, [], ◌∷◌, length, map, take, drop, max, Bool, true, false, not, Result, Ok, Err, nat_lt, inl, inr, refl, sym, ap, subst, ◌∙◌, arith}
 use Rattle.std.specs.Prelude.{if◌then◌else◌}
-use Rattle.std.specs.List.{filter}
+use Rattle.std.specs.List.{filter, list_any}
 use Rattle.std.proofs.lemmas.Bool.{lt-ltb, le-ltb, cases_lt}
 use Rattle.std.proofs.lemmas.List.{length-drop, length-take-le}
 use Rattle.std.proofs.lemmas.List.Sums.{sum_by-cons}
@@ -19,11 +19,11 @@ use Rattle.perf_file.specs.Opens.{◌>>=◌}
 use Rattle.perf_file.specs.Outlines.{ids_in, id_count}
 use Rattle.perf_file.specs.Pieces.{piece_in, after_piece, after_frame, first_pieces, size_of, header_seen, payload_length}
 use Rattle.perf_file.specs.PipeOutlines.{from_notes, note_sections}
-use Rattle.perf_file.specs.Pipes.{FrameNote, note_in, body_seen, pipe_with, is_of, all_frames, each_of, noted_ids, attribute_size, attribute_bytes, id_bytes}
+use Rattle.perf_file.specs.Pipes.{FrameNote, note_in, body_seen, pipe_with, is_of, is_compressed, all_frames, each_of, noted_ids, attribute_size, attribute_bytes, id_bytes}
 use Rattle.perf_file.specs.Sections.{is_inside}
 use Rattle.perf_file.specs.declared.error.OpenError.{OpenError}
 use Rattle.perf_file.specs.declared.section.Section.{Section}
-use Rattle.perf_file.proofs.Laws.{length-drop_most, size_seen, short, first}
+use Rattle.perf_file.proofs.Laws.{length-drop_most, header_after, size_is, size_seen, short, first}
 use Rattle.perf_file.proofs.Noted.{body_there}
 use Rattle.perf_file.proofs.Stepping.{regroup}
 
@@ -40,7 +40,7 @@ passes_by item index x rest made off = rw off refl
 
 -- one that is
 pub reads_one : {A B : Type 0} (item : ℕ → FrameNote → Result A OpenError) (index : ℕ) (x : FrameNote) (rest : List FrameNote) (a : A) (made : List A → Result B OpenError) → is_of 64 x ≡ true → item index x ≡ Ok a
-    → from_notes item index (x ∷ rest) made ≡ from_notes item (index + 1) rest (λ as. made (a ∷ as))
+    → from_notes item index (x ∷ rest) made ≡ from_notes item (index + 1) rest (λ xs. made (a ∷ xs))
 unfolding each_of
 reads_one item index x rest a made on got = rw (on, got) (regroup a made (each_of item (index + 1) (filter (is_of 64) rest)))
 
@@ -55,39 +55,68 @@ unfolding each_of
 none_left item index made = refl
 
 -- the same of what is found
-pub made_alike : {A B : Type 0} (item : ℕ → FrameNote → Result A OpenError) (index : ℕ) (left : List FrameNote) (f g : List A → Result B OpenError) → ((as : List A) → f as ≡ g as) → from_notes item index left f ≡ from_notes item index left g
+pub made_alike : {A B : Type 0} (item : ℕ → FrameNote → Result A OpenError) (index : ℕ) (left : List FrameNote) (f g : List A → Result B OpenError) → ((xs : List A) → f xs ≡ g xs) → from_notes item index left f ≡ from_notes item index left g
 made_alike {A} {B} item index left f g same = go (each_of item index (filter (is_of 64) left))
   where
     go : (r : Result (List A) OpenError) → (r >>= f) ≡ (r >>= g)
-    go (Ok as) = same as
+    go (Ok xs) = same xs
     go (Err e) = refl
+
+-- the first of some frames is compressed
+pub any_first : (x : FrameNote) (rest : List FrameNote) → is_compressed x ≡ true → list_any is_compressed (x ∷ rest) ≡ true
+any_first x rest on = rw on refl
+
+-- ---- how many notes there are
+
+pub counts_one : (x : FrameNote) → is_of 64 x ≡ true → length (filter (is_of 64) (x ∷ [])) ≡ 1
+counts_one x on = rw on refl
+
+pub counts_more : (x : FrameNote) (rest : List FrameNote) → length (filter (is_of 64) (x ∷ rest)) ≡ length (filter (is_of 64) (x ∷ [])) + length (filter (is_of 64) rest)
+counts_more x rest = go (is_of 64 x) refl
+  where
+    go : (b : Bool) → is_of 64 x ≡ b → length (filter (is_of 64) (x ∷ rest)) ≡ length (filter (is_of 64) (x ∷ [])) + length (filter (is_of 64) rest)
+    go true on = rw on (omega arith)
+    go false off = rw off (omega arith)
+
+few_pieces : (f : File) (n : ℕ) (left : List ℕ) → length (map note_in (first_pieces f n left)) ≤ n
+few_pieces f zero left = omega arith
+few_pieces f (suc n) left = elim (cases_lt (length left) 8) [
+  | inl lt ↦ let a : length (map note_in (first_pieces f (suc n) left)) ≡ 0 = ap (λ ps. length (map note_in ps)) (short f (suc n) left lt) in omega (arith, a)
+  | inr fits ↦
+      let a = ap (λ ps. length (map note_in ps)) (first f n left fits) in
+      let b = few_pieces f n (after_piece (order_of f.order) left) in
+      omega (arith, a, b)
+]
+
+-- no more than bytes
+pub few_notes : (order : Dynamic) (frames : List ℕ) → length (all_frames order frames) ≤ length frames
+few_notes order frames = few_pieces (pipe_with order frames []) (length frames) frames
 
 -- ---- room for the ids
 
 -- a frame takes at least its header and the bytes after it
 fits_header : (h : perf_event_header) (rest : List ℕ) (found : Sight) → found ≡ sight_after h rest true → 8 + length (body_seen found) ≤ size_of (header_seen found)
-fits_header h rest found is = elim (cases_lt h.size 8) [
-  | inl lt ↦
-      let a : nat_lt h.size 8 ≡ true = lt-ltb h.size 8 lt in
-      let b : length (body_seen found) ≡ 0 = ap (λ s. length (body_seen s)) is ∙ rw a refl in
-      let n : size_of (header_seen found) ≡ 8 = ap (λ s. size_of (header_seen s)) is ∙ rw a refl in
-      omega (arith, b, n)
-  | inr le ↦
-      let a : nat_lt h.size 8 ≡ false = le-ltb h.size 8 le in
-      elim (cases_lt (length rest) (length_after h)) [
-        | inl lt ↦
-            let c : nat_lt (length rest) (length_after h) ≡ true = lt-ltb (length rest) (length_after h) lt in
-            let b : length (body_seen found) ≡ 0 = ap (λ s. length (body_seen s)) is ∙ rw (a, c) refl in
-            let n : size_of (header_seen found) ≡ h.size = ap (λ s. size_of (header_seen s)) is ∙ rw (a, c) refl in
-            omega (arith, b, n, le)
-        | inr fits ↦
-            let c : nat_lt (length rest) (length_after h) ≡ false = le-ltb (length rest) (length_after h) fits in
-            let b : body_seen found ≡ take (length_after h) rest = ap body_seen is ∙ rw (a, c) refl in
-            let k : length (body_seen found) ≡ length_after h = ap (λ (xs : List ℕ). length xs) b ∙ length-take-le (length_after h) rest fits in
-            let n : size_of (header_seen found) ≡ h.size = ap (λ s. size_of (header_seen s)) is ∙ rw (a, c) refl in
-            omega (arith, k, n, le)
-      ]
-]
+fits_header h rest found is =
+    let n : size_of (header_seen found) ≡ max 8 h.size = ap (λ s. size_of (header_seen s)) is ∙ ap size_of (header_after h rest) ∙ size_is h in
+    elim (cases_lt h.size 8) [
+      | inl lt ↦
+          let a : nat_lt h.size 8 ≡ true = lt-ltb h.size 8 lt in
+          let b : length (body_seen found) ≡ 0 = ap (λ s. length (body_seen s)) is ∙ rw a refl in
+          omega (arith, b, n)
+      | inr le ↦
+          let a : nat_lt h.size 8 ≡ false = le-ltb h.size 8 le in
+          elim (cases_lt (length rest) (length_after h)) [
+            | inl lt ↦
+                let c : nat_lt (length rest) (length_after h) ≡ true = lt-ltb (length rest) (length_after h) lt in
+                let b : length (body_seen found) ≡ 0 = ap (λ s. length (body_seen s)) is ∙ rw (a, c) refl in
+                omega (arith, b, n)
+            | inr fits ↦
+                let c : nat_lt (length rest) (length_after h) ≡ false = le-ltb (length rest) (length_after h) fits in
+                let b : body_seen found ≡ take (length_after h) rest = ap body_seen is ∙ rw (a, c) refl in
+                let k : length (body_seen found) ≡ length_after h = ap (λ (xs : List ℕ). length xs) b ∙ length-take-le (length_after h) rest fits in
+                omega (arith, k, n, le)
+          ]
+    ]
 
 -- the bytes of a note and those after it
 note_and_after : (o : Order) (left : List ℕ) → 8 ≤ length left → 8 + length (body_seen (sight_in o left true)) + length (after_piece o left) ≤ length left

@@ -1,5 +1,5 @@
 -- What a pipe is, by what the calls over memory of the caller's return.
-use Rattle.std.proofs.Common.{◌≡◌, ℕ, zero, suc, ◌+◌, ◌*◌, ◌/◌, ◌≤◌, ◌<◌, ◌||◌, List, [], ◌∷◌, length, map, drop, min, zip, Bool, true, false, Option, Some, None, Result, Ok, Err, nat_lt, inl, inr, refl, sym, ap, ◌∙◌, arith}
+use Rattle.std.proofs.Common.{◌≡◌, ℕ, zero, suc, ◌+◌, ◌*◌, ◌/◌, ◌≤◌, ◌<◌, ◌||◌, List, [], ◌∷◌, length, map, drop, min, zip, Bool, true, false, cond, Option, Some, None, Result, Ok, Err, nat_lt, inl, inr, refl, sym, ap, ◌∙◌, arith}
 use Rattle.std.specs.List.{filter, list_any}
 use Rattle.std.proofs.lemmas.Bool.{lt-ltb, le-ltb, cases_lt}
 use Rattle.std.proofs.lemmas.List.Sums.{sum_by-cons}
@@ -39,14 +39,21 @@ pipe_long bytes order is = elim (cases_lt (length bytes) 16) [
 -- the notes of attributes among the notes are those among all frames
 twice : (ns : List FrameNote) → filter (is_of 64) (filter is_note ns) ≡ filter (is_of 64) ns
 twice [] = refl
-twice (n ∷ ns) = go (is_of 64 n) refl (is_note n) refl
+twice (n ∷ ns) = go (twice ns) (is_of 64 n) refl (is_note n) refl
   where
-    go : (a : Bool) → is_of 64 n ≡ a → (b : Bool) → is_note n ≡ b → filter (is_of 64) (filter is_note (n ∷ ns)) ≡ filter (is_of 64) (n ∷ ns)
-    go true on b is =
+    go : filter (is_of 64) (filter is_note ns) ≡ filter (is_of 64) ns → (a : Bool) → is_of 64 n ≡ a → (b : Bool) → is_note n ≡ b → filter (is_of 64) (filter is_note (n ∷ ns)) ≡ filter (is_of 64) (n ∷ ns)
+    go rest true on b is =
         let note : is_note n ≡ true = ap (λ x. x || (is_of 67 n || (is_of 78 n || is_of 80 n))) on in
-        rw (note, on) (ap (λ (xs : List FrameNote). n ∷ xs) (twice ns))
-    go false off true is = rw (is, off) (twice ns)
-    go false off false is = rw (is, off) (twice ns)
+        let here : filter is_note (n ∷ ns) ≡ n ∷ filter is_note ns = ap (λ c. cond c (n ∷ filter is_note ns) (filter is_note ns)) note in
+        ap (filter (is_of 64)) here ∙ ap (λ c. cond c (n ∷ filter (is_of 64) (filter is_note ns)) (filter (is_of 64) (filter is_note ns))) on
+        ∙ ap (λ (xs : List FrameNote). n ∷ xs) rest ∙ sym (ap (λ c. cond c (n ∷ filter (is_of 64) ns) (filter (is_of 64) ns)) on)
+    go rest false off true is =
+        let here : filter is_note (n ∷ ns) ≡ n ∷ filter is_note ns = ap (λ c. cond c (n ∷ filter is_note ns) (filter is_note ns)) is in
+        ap (filter (is_of 64)) here ∙ ap (λ c. cond c (n ∷ filter (is_of 64) (filter is_note ns)) (filter (is_of 64) (filter is_note ns))) off
+        ∙ rest ∙ sym (ap (λ c. cond c (n ∷ filter (is_of 64) ns) (filter (is_of 64) ns)) off)
+    go rest false off false is =
+        let here : filter is_note (n ∷ ns) ≡ filter is_note ns = ap (λ c. cond c (n ∷ filter is_note ns) (filter is_note ns)) is in
+        ap (filter (is_of 64)) here ∙ rest ∙ sym (ap (λ c. cond c (n ∷ filter (is_of 64) ns) (filter (is_of 64) ns)) off)
 
 -- the events of notes of attributes
 abbrev events_with : Dynamic → List ℕ → List FrameNote → Result (List perf_event_attr) OpenError → Result (List Section) OpenError → Result File OpenError
@@ -98,7 +105,7 @@ pipe_refused order bytes e is = go (list_any is_compressed (all_frames order (dr
         opened_by order bytes plain ∙ numbers_refused order bytes e (filter (is_of 64) all) (each_of (noted_attribute order) 0 (filter (is_of 64) all)) (note_sections order bytes all) refl (sym out ∙ is)
 
 pub form_refused : (bytes : List ℕ) (e : OpenError) → form_outline bytes ≡ Err e → opened bytes ≡ Err e
-unfolding (form_outline, opened)
+unfolding form_outline opened
 form_refused bytes e is = go (pipe_order bytes) is
   where
     go : (p : Option Dynamic) → (elim p [ Some order ↦ pipe_outline order bytes | None ↦ outline bytes ]) ≡ Err e → (elim p [ Some order ↦ opened_pipe order bytes | None ↦ opened_file bytes ]) ≡ Err e

@@ -1,7 +1,7 @@
 //! What is known of a pipe before its events are read into memory, and where their ids are, in memory
 //! of the caller's.
 
-ghost use Rattle.std.specs.Prelude.{◌≡◌, ◌≢◌, ◌≤◌, ◌<◌, ◌+◌, ◌^◌, ◌++◌, ◌∷◌, ◌/◌, ℕ, List, Ok, IfOk, OnOk, All, true, min, length, take, drop};
+ghost use Rattle.std.specs.Prelude.{◌≡◌, ◌≤◌, ◌<◌, ◌+◌, ◌^◌, ◌++◌, ◌∷◌, ◌/◌, [], ℕ, List, Ok, IfOk, OnOk, All, true, min, length, take, drop};
 ghost use Rattle.std.specs.List.{filter};
 ghost use Rattle.perf_file.specs.Filled.{Fills};
 ghost use Rattle.perf_file.specs.NoteViews as views;
@@ -111,9 +111,10 @@ fn count_ids(
         return Ok(before);
     }
     let ids = noted_ids(order, bytes, before.events, note)?;
+    let total = (before.ids + ids.size / 8).min(bytes.len() as u64 / 8);
     Ok(Counted {
         events: before.events + 1,
-        ids: (before.ids + ids.size / 8).min(bytes.len() as u64 / 8),
+        ids: total,
     })
 }
 
