@@ -1,5 +1,5 @@
 -- Names of events as places in a file, and as text in memory of the caller's.
-use Rattle.std.proofs.Common.{◌≡◌, ◌≢◌, ℕ, zero, suc, ◌+◌, ◌-◌, ◌*◌, ◌≤◌, ◌<◌, List, [], ◌∷◌, ◌++◌, ◌&&◌, ◌==◌, Bool, true, false, cond, map, length, get_or, set, take, drop, min, Option, Some, None, Result, Ok, Err, OnOk, Contains, All, zip, refl, sym, ap, subst, ◌∙◌, nat_eq, nat_le, nat_lt, arith}
+use Rattle.std.proofs.Common.{◌≡◌, ◌≢◌, ℕ, zero, suc, ◌+◌, ◌-◌, ◌*◌, ◌≤◌, ◌<◌, List, [], ◌∷◌, ◌++◌, ◌&&◌, ◌||◌, ◌==◌, Bool, true, false, cond, map, length, get_or, set, take, drop, min, Option, Some, None, Result, Ok, Err, OnOk, Contains, All, zip, refl, sym, ap, subst, ◌∙◌, nat_eq, nat_le, nat_lt, arith}
 use Rattle.std.proofs.lemmas.Bool.{eq-eqb, eqb-true, le-leb, lt-leb}
 use Rattle.std.proofs.lemmas.List.{drop-drop, take-take, drop-take, length-take-le, length-drop, length-map, get_or-map}
 use Rattle.std.proofs.lemmas.List.Elements.{All-cons, All-head, All-tail}
@@ -12,7 +12,7 @@ use Rattle.std.specs.List.{filter}
 use Rattle.perf_base.specs.Order.{Order}
 use Rattle.perf_file.specs.Attributes.{attributes_in}
 use Rattle.perf_file.specs.Forms.{event_name, notes_of}
-use Rattle.perf_file.specs.IdTables.{is_event}
+use Rattle.perf_file.specs.IdTables.{is_event, event_of}
 use Rattle.perf_file.specs.Numbers.{number}
 use Rattle.perf_file.specs.Pipes.{FrameNote, pipe_order, all_frames, is_of, is_note, newer, has_name, new_name, named_by, named_event, last_name, noted_feature, noted_name}
 use Rattle.perf_file.specs.declared.ids.IdOfEvent.{IdOfEvent}
@@ -171,19 +171,21 @@ name_alike f g xs ys n x y same lt =
 -- ---- new names
 
 no_name : (o : Order) (n : FrameNote) → is_of 78 n ≡ false → has_name o n ≡ false
-no_name o n off = go (nat_lt (length n.body) 16)
+no_name o n off = ap (λ v. cond (nat_lt (length n.body) 16) false (v && (number o n.body 0 == 2 && nat_lt 0 (length (new_name n))))) off ∙ go (nat_lt (length n.body) 16)
   where
-    go : (b : Bool) → cond b false (is_of 78 n && (number o n.body 0 == 2 && nat_lt 0 (length (new_name n)))) ≡ false
+    go : (b : Bool) → cond b false (false && (number o n.body 0 == 2 && nat_lt 0 (length (new_name n)))) ≡ false
     go true = refl
-    go false = rw off refl
+    go false = refl
 
-is_no_note : (n : FrameNote) → is_of 78 n ≡ true → is_note n ≡ false → ⊥
-is_no_note n on off = go (is_of 64 n) (is_of 67 n) refl refl
+is_no_note : (n : FrameNote) (a b : Bool) → is_of 64 n ≡ a → is_of 67 n ≡ b → is_of 78 n ≡ true → is_note n ≡ false → ⊥
+is_no_note n a b x y on off =
+    let made : is_note n ≡ (a || (b || (true || is_of 80 n))) = ap (λ v. v || (is_of 67 n || (is_of 78 n || is_of 80 n))) x ∙ ap (λ v. a || (v || (is_of 78 n || is_of 80 n))) y ∙ ap (λ v. a || (b || (v || is_of 80 n))) on in
+    let yes : is_note n ≡ true = made ∙ all a b in absurd (cc)
   where
-    go : (a b : Bool) → is_of 64 n ≡ a → is_of 67 n ≡ b → ⊥
-    go true b x y = let yes : is_note n ≡ true = rw x refl in absurd (cc)
-    go false true x y = let yes : is_note n ≡ true = rw (x, y) refl in absurd (cc)
-    go false false x y = let yes : is_note n ≡ true = rw (x, y, on) refl in absurd (cc)
+    all : (a b : Bool) → (a || (b || (true || is_of 80 n))) ≡ true
+    all true b = refl
+    all false true = refl
+    all false false = refl
 
 -- an event at the place of a name has that name
 pub named_at : (bytes text : List ℕ) (s : Section) (type config : ℕ) → name_at bytes s ≡ Some text → 0 < length text → name_or bytes s type config ≡ described text
@@ -193,31 +195,27 @@ named_at bytes (x ∷ text) s type config is some = ap (λ n. described_or n (na
 -- frames that are no notes give no names
 pub named_alike : (o : Order) (t : List IdOfEvent) (k : ℕ) (ns : List FrameNote) → last_name o t k (filter is_note ns) ≡ last_name o t k ns
 named_alike o t k [] = refl
-named_alike o t k (n ∷ ns) = go (is_note n) refl (is_of 78 n) refl
+named_alike o t k (n ∷ ns) = go (named_alike o t k ns) (is_note n) refl (is_of 78 n) refl
   where
     older : (a : Option (List ℕ)) → newer a None ≡ a
     older (Some x) = refl
     older None = refl
-    own : Option (List ℕ)
-    own = if is_event (named_event o t n) k then Some (new_name n) else None
-    nameless_note : is_of 78 n ≡ false → own ≡ None
-    nameless_note off =
-        let no : has_name o n ≡ false = no_name o n off in
-        let none : named_event o t n ≡ None = rw no refl in
-        ap (λ e. if is_event e k then Some (new_name n) else None) none
-    go : (b : Bool) → is_note n ≡ b → (c : Bool) → is_of 78 n ≡ c → last_name o t k (filter is_note (n ∷ ns)) ≡ last_name o t k (n ∷ ns)
-    go true is c on = rw is (ap (λ r. newer r own) (named_alike o t k ns))
-    go false is false off =
-        let here : filter is_note (n ∷ ns) ≡ filter is_note ns = rw is refl in
-        ap (last_name o t k) here ∙ named_alike o t k ns
+    nameless_note : is_of 78 n ≡ false → (if is_event (named_event o t n) k then Some (new_name n) else None) ≡ None
+    nameless_note off = ap (λ (has : Bool). if is_event (if has then event_of t (number o n.body 8) else None) k then Some (new_name n) else None) (no_name o n off)
+    go : last_name o t k (filter is_note ns) ≡ last_name o t k ns → (b : Bool) → is_note n ≡ b → (c : Bool) → is_of 78 n ≡ c → last_name o t k (filter is_note (n ∷ ns)) ≡ last_name o t k (n ∷ ns)
+    go rest true is c on =
+        let here : filter is_note (n ∷ ns) ≡ n ∷ filter is_note ns = ap (λ x. cond x (n ∷ filter is_note ns) (filter is_note ns)) is in
+        ap (last_name o t k) here ∙ ap (λ r. newer r (if is_event (named_event o t n) k then Some (new_name n) else None)) rest
+    go rest false is false off =
+        let here : filter is_note (n ∷ ns) ≡ filter is_note ns = ap (λ x. cond x (n ∷ filter is_note ns) (filter is_note ns)) is in
+        ap (last_name o t k) here ∙ rest
         ∙ sym (ap (newer (last_name o t k ns)) (nameless_note off) ∙ older (last_name o t k ns))
-    go false is true on = absurd (is_no_note n on is)
+    go rest false is true on = absurd (is_no_note n (is_of 64 n) (is_of 67 n) refl refl on is)
 
 -- the names of a pipe's events
 pub noted_is : (bytes : List ℕ) (f : File) (order : Dynamic) (all now : List FlatEvent) (ids : List IdOfEvent) → pipe_order bytes ≡ Some order → f.order ≡ order → IsRead bytes f all ids → HaveIds bytes all
     → ((k : ℕ) (d : FlatEvent) → k < length all → flat_name bytes (get_or now k d) ≡ named_by (last_name (order_of order) ids k (all_frames order (drop 16 bytes))) (described_by (order_of order) (or_nothing (noted_feature (order_of order) 12 (all_frames order (drop 16 bytes)))) bytes (get_or all k d)))
     → AreNames bytes f now
-unfolding event_name notes_of
 noted_is bytes f order all now ids piped is read have named n e x lt =
     let o = order_of order in
     let frames = all_frames order (drop 16 bytes) in
@@ -226,7 +224,7 @@ noted_is bytes f order all now ids piped is read have named n e x lt =
     let few : n < length all = omega (arith, lt, same_count order bytes all f.events states) in
     let same : or_nothing (noted_feature o 12 frames) ≡ ds = ap or_nothing (sym (noted_alike o 12 frames)) in
     let key : described_by o ds bytes (get_or all n e) ≡ name_of order ds (get_or f.events n x) = name_alike (described_by o ds bytes) (name_of order ds) all f.events n e x (described_alike order ds bytes all f.events states have) lt in
-    let made : event_name bytes f n (get_or f.events n x) ≡ noted_name order (filter is_note frames) (table_of f.events) n (get_or f.events n x) = rw piped refl in
+    let made : event_name bytes f n (get_or f.events n x) ≡ noted_name order (filter is_note frames) (table_of f.events) n (get_or f.events n x) = rw (event_name, notes_of, piped) refl in
     named n e few
     ∙ ap (λ b. named_by (last_name o ids n frames) (described_by o b bytes (get_or all n e))) same
     ∙ ap (λ m. named_by (last_name o ids n frames) m) key

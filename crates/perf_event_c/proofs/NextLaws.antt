@@ -26,7 +26,7 @@ use Rattle.perf_file.specs.declared.head.Head.{Head}
 use Rattle.perf_file.specs.declared.owning.Owner.{Owner}
 use Rattle.perf_file.specs.declared.owning.Owner.TheVariants as owner
 use Rattle.perf_file.specs.declared.summary.Outline.{Outline}
-use Rattle.perf_file.proofs.PipeInMemory.{pipe_long, outline_head, pipe_is}
+use Rattle.perf_file.proofs.PipeInMemory.{pipe_long, outline_head, pipe_is, form_some, form_none}
 use Rattle.perf_flat.specs.FlatConfigs.{flat_config_of, is_valid, order_code, order_by}
 use Rattle.perf_flat.specs.declared.config.FlatConfig.{FlatConfig}
 use Rattle.perf_records.specs.Sights.{Sight, sight_in}
@@ -105,12 +105,11 @@ pipe_placed order bytes o f long sketched whole =
 
 -- what is known of a file in either form
 pub is_placed : (bytes : List ℕ) (o : Outline) (f : File) → form_outline bytes ≡ Ok o → opened bytes ≡ Ok f → IsPlaced bytes o.head f
-unfolding form_outline opened
-is_placed bytes o f sketched whole = go (pipe_order bytes) refl sketched whole
+is_placed bytes o f sketched whole = go (pipe_order bytes) refl
   where
-    go : (p : Option Dynamic) → pipe_order bytes ≡ p → (elim p [ Some order ↦ pipe_outline order bytes | None ↦ outline bytes ]) ≡ Ok o → (elim p [ Some order ↦ opened_pipe order bytes | None ↦ opened_file bytes ]) ≡ Ok f → IsPlaced bytes o.head f
-    go (Some order) is a b = pipe_placed order bytes o f (pipe_long bytes order is) a b
-    go None is a b = file_placed bytes o f a b
+    go : (p : Option Dynamic) → pipe_order bytes ≡ p → IsPlaced bytes o.head f
+    go (Some order) is = let form = form_some bytes order is in pipe_placed order bytes o f (pipe_long bytes order is) (sym form.0 ∙ sketched) (sym form.1 ∙ whole)
+    go None is = let form = form_none bytes is in file_placed bytes o f (sym form.0 ∙ sketched) (sym form.1 ∙ whole)
 
 -- ---- its events
 

@@ -117,7 +117,12 @@ after_number bytes body at long is = sym (after_skip bytes body at 8 long is ∙
 -- a feature of a pipe
 pub pipe_feature : (bytes : List ℕ) (order : Dynamic) (feature : ℕ) → pipe_order bytes ≡ Some order → feature_of bytes feature ≡ Ok (noted_feature (order_of order) feature (all_frames order (drop 16 bytes)))
 unfolding feature_of notes_of
-pipe_feature bytes order feature is = rw is (ap (λ (found : Option (List ℕ)). Ok found) (noted_alike (order_of order) feature (all_frames order (drop 16 bytes))))
+pipe_feature bytes order feature is =
+    let o = order_of order in
+    let all = all_frames order (drop 16 bytes) in
+    let first : feature_of bytes feature ≡ Ok (noted_feature o feature (notes_of bytes)) = rw (feature_of, is) refl in
+    let notes : notes_of bytes ≡ filter is_note all = rw (notes_of, is) refl in
+    first ∙ ap (λ ns. Ok (noted_feature o feature ns)) notes ∙ ap (λ (found : Option (List ℕ)). Ok found) (noted_alike o feature all)
 
 -- ---- new names
 

@@ -1,7 +1,8 @@
 -- What a pipe is, by what the calls over memory of the caller's return.
-use Rattle.std.proofs.Common.{◌≡◌, ℕ, zero, suc, ◌+◌, ◌*◌, ◌/◌, ◌≤◌, ◌<◌, ◌||◌, List, [], ◌∷◌, length, map, drop, min, zip, Bool, true, false, cond, Option, Some, None, Result, Ok, Err, nat_lt, inl, inr, refl, sym, ap, ◌∙◌, arith}
+use Rattle.std.proofs.Common.{◌≡◌, ℕ, zero, suc, ◌+◌, ◌*◌, ◌/◌, ◌≤◌, ◌<◌, ◌||◌, List, [], ◌∷◌, length, map, drop, min, zip, Bool, true, false, cond, Option, Some, None, Result, Ok, Err, nat_eq, nat_lt, inl, inr, refl, sym, ap, ◌∙◌, arith}
 use Rattle.std.specs.List.{filter, list_any}
-use Rattle.std.proofs.lemmas.Bool.{lt-ltb, le-ltb, cases_lt}
+use Rattle.std.specs.Prelude.{if◌then◌else◌}
+use Rattle.std.proofs.lemmas.Bool.{lt-ltb, le-ltb, eqb-true, cases_lt}
 use Rattle.std.proofs.lemmas.List.Sums.{sum_by-cons}
 use Rattle.perf_base.specs.Dynamic.{order_of}
 use Rattle.perf_base.specs.declared.endian.Dynamic.{Dynamic}
@@ -56,17 +57,17 @@ twice (n ∷ ns) = go (twice ns) (is_of 64 n) refl (is_note n) refl
         ap (filter (is_of 64)) here ∙ rest ∙ sym (ap (λ c. cond c (n ∷ filter (is_of 64) ns) (filter (is_of 64) ns)) off)
 
 -- the events of notes of attributes
-abbrev events_with : Dynamic → List ℕ → List FrameNote → Result (List perf_event_attr) OpenError → Result (List Section) OpenError → Result File OpenError
-events_with order bytes entries attributes sections =
-    ((checked_count entries >>= λ some. attributes >>= λ ats. sections >>= λ ss. Ok (map (event_in (order_of order) bytes) (zip ats ss)))
+abbrev events_with : Dynamic → List ℕ → Result (Unit {0}) OpenError → Result (List perf_event_attr) OpenError → Result (List Section) OpenError → Result File OpenError
+events_with order bytes counted attributes sections =
+    ((counted >>= λ some. attributes >>= λ ats. sections >>= λ ss. Ok (map (event_in (order_of order) bytes) (zip ats ss)))
     >>= λ events. checked_events events >>= λ found. Ok events) >>= λ events. Ok (pipe_with order (drop 16 bytes) events)
 
 -- what opening returns, if no frames are compressed
 opened_by : (order : Dynamic) (bytes : List ℕ) → list_any is_compressed (all_frames order (drop 16 bytes)) ≡ false
-    → opened_pipe order bytes ≡ events_with order bytes (filter (is_of 64) (all_frames order (drop 16 bytes))) (each_of (noted_attribute order) 0 (filter (is_of 64) (all_frames order (drop 16 bytes)))) (note_sections order bytes (all_frames order (drop 16 bytes)))
+    → opened_pipe order bytes ≡ events_with order bytes (checked_count (filter (is_of 64) (all_frames order (drop 16 bytes)))) (each_of (noted_attribute order) 0 (filter (is_of 64) (all_frames order (drop 16 bytes)))) (note_sections order bytes (all_frames order (drop 16 bytes)))
 unfolding opened_pipe
 opened_by order bytes plain =
-    rw plain (ap (λ entries. events_with order bytes entries (each_of (noted_attribute order) 0 entries) (each_of (noted_ids order bytes) 0 entries)) (twice (all_frames order (drop 16 bytes))))
+    rw plain (ap (λ entries. events_with order bytes (checked_count entries) (each_of (noted_attribute order) 0 entries) (each_of (noted_ids order bytes) 0 entries)) (twice (all_frames order (drop 16 bytes))))
 
 opened_not : (order : Dynamic) (bytes : List ℕ) → list_any is_compressed (all_frames order (drop 16 bytes)) ≡ true → opened_pipe order bytes ≡ Err errors.Compressed
 unfolding opened_pipe
@@ -79,16 +80,31 @@ abbrev numbers : Dynamic → List ℕ → Result (List perf_event_attr) OpenErro
 numbers order bytes attributes sections =
     (attributes >>= λ ats. Ok (length ats)) >>= λ events. checked_number events >>= λ some. (sections >>= λ ss. Ok (min (id_count ss) (length bytes / 8))) >>= λ ids. Ok (pipe_outline_with order bytes events ids)
 
+some_count : (a : perf_event_attr) (ats : List perf_event_attr) → checked_number (length (a ∷ ats)) ≡ Ok tt
+some_count a ats = ap (λ (b : Bool). number_by b) (go (nat_eq (length (a ∷ ats)) 0) refl)
+  where
+    number_by : Bool → Result (Unit {0}) OpenError
+    number_by b = if b then Err errors.NoAttributes else Ok tt
+    go : (b : Bool) → nat_eq (length (a ∷ ats)) 0 ≡ b → nat_eq (length (a ∷ ats)) 0 ≡ false
+    go true e = let z = eqb-true (length (a ∷ ats)) 0 e in absurd (omega (arith, z))
+    go false e = e
+
+after_count : (order : Dynamic) (bytes : List ℕ) (e : OpenError) (n : FrameNote) (ns : List FrameNote) (ats : List perf_event_attr) (sections : Result (List Section) OpenError)
+    → ((sections >>= λ ss. Ok (min (id_count ss) (length bytes / 8))) >>= λ ids. Ok (pipe_outline_with order bytes (length ats) ids)) ≡ Err e → events_with order bytes (checked_count (n ∷ ns)) (Ok ats) sections ≡ Err e
+after_count order bytes e n ns ats (Err d) out = again d e out
+after_count order bytes e n ns ats (Ok ss) out = absurd (cc)
+
 numbers_refused : (order : Dynamic) (bytes : List ℕ) (e : OpenError) (entries : List FrameNote) (attributes : Result (List perf_event_attr) OpenError) (sections : Result (List Section) OpenError)
-    → each_of (noted_attribute order) 0 entries ≡ attributes → numbers order bytes attributes sections ≡ Err e → events_with order bytes entries attributes sections ≡ Err e
+    → each_of (noted_attribute order) 0 entries ≡ attributes → numbers order bytes attributes sections ≡ Err e → events_with order bytes (checked_count entries) attributes sections ≡ Err e
 unfolding each_of
 numbers_refused order bytes e [] (Ok []) sections is out = again errors.NoAttributes e out
 numbers_refused order bytes e [] (Ok (a ∷ ats)) sections is out = absurd (cc)
 numbers_refused order bytes e [] (Err d) sections is out = absurd (cc)
 numbers_refused order bytes e (n ∷ ns) (Err d) sections is out = again d e out
 numbers_refused order bytes e (n ∷ ns) (Ok []) sections is out = let a = each_length (noted_attribute order) 0 (n ∷ ns) [] is in absurd (omega (arith, a))
-numbers_refused order bytes e (n ∷ ns) (Ok (a ∷ ats)) (Err d) is out = again d e out
-numbers_refused order bytes e (n ∷ ns) (Ok (a ∷ ats)) (Ok ss) is out = absurd (cc)
+numbers_refused order bytes e (n ∷ ns) (Ok (a ∷ ats)) sections is out =
+    after_count order bytes e n ns (a ∷ ats) sections
+    (sym (ap (λ c. c >>= λ some. (sections >>= λ ss. Ok (min (id_count ss) (length bytes / 8))) >>= λ ids. Ok (pipe_outline_with order bytes (length (a ∷ ats)) ids)) (some_count a ats)) ∙ out)
 
 -- what is refused before two events are compared is refused
 pub pipe_refused : (order : Dynamic) (bytes : List ℕ) (e : OpenError) → pipe_outline order bytes ≡ Err e → opened_pipe order bytes ≡ Err e
@@ -98,19 +114,27 @@ pipe_refused order bytes e is = go (list_any is_compressed (all_frames order (dr
     go : (b : Bool) → list_any is_compressed (all_frames order (drop 16 bytes)) ≡ b → opened_pipe order bytes ≡ Err e
     go true some =
         let out : pipe_outline order bytes ≡ Err errors.Compressed = rw some refl in
-        opened_not order bytes some ∙ sym out ∙ is
+        opened_not order bytes some ∙ again errors.Compressed e (sym out ∙ is)
     go false plain =
         let all = all_frames order (drop 16 bytes) in
         let out : pipe_outline order bytes ≡ numbers order bytes (each_of (noted_attribute order) 0 (filter (is_of 64) all)) (note_sections order bytes all) = rw plain refl in
         opened_by order bytes plain ∙ numbers_refused order bytes e (filter (is_of 64) all) (each_of (noted_attribute order) 0 (filter (is_of 64) all)) (note_sections order bytes all) refl (sym out ∙ is)
 
+-- the two forms
+pub form_some : (bytes : List ℕ) (order : Dynamic) → pipe_order bytes ≡ Some order → (form_outline bytes ≡ pipe_outline order bytes) × (opened bytes ≡ opened_pipe order bytes)
+unfolding form_outline pipe_outline opened opened_pipe
+form_some bytes order is = (rw (form_outline, is) refl, rw (opened, is) refl)
+
+pub form_none : (bytes : List ℕ) → pipe_order bytes ≡ None → (form_outline bytes ≡ outline bytes) × (opened bytes ≡ opened_file bytes)
+unfolding form_outline opened opened_file
+form_none bytes is = (rw (form_outline, is) refl, rw (opened, is) refl)
+
 pub form_refused : (bytes : List ℕ) (e : OpenError) → form_outline bytes ≡ Err e → opened bytes ≡ Err e
-unfolding form_outline opened
-form_refused bytes e is = go (pipe_order bytes) is
+form_refused bytes e out = go (pipe_order bytes) refl
   where
-    go : (p : Option Dynamic) → (elim p [ Some order ↦ pipe_outline order bytes | None ↦ outline bytes ]) ≡ Err e → (elim p [ Some order ↦ opened_pipe order bytes | None ↦ opened_file bytes ]) ≡ Err e
-    go (Some order) out = pipe_refused order bytes e out
-    go None out = outline_refused bytes e out
+    go : (p : Option Dynamic) → pipe_order bytes ≡ p → opened bytes ≡ Err e
+    go (Some order) is = let form = form_some bytes order is in form.1 ∙ pipe_refused order bytes e (sym form.0 ∙ out)
+    go None is = let form = form_none bytes is in form.1 ∙ outline_refused bytes e (sym form.0 ∙ out)
 
 -- ---- what an outline states
 
@@ -193,8 +217,11 @@ has_note_events order bytes o sections is read =
     let one : b.0 ≡ sections = cc in
     let ids : min (id_count b.0) (length bytes / 8) ≡ o.ids = let z = b.2 in cc in
     let events = map (event_in order' bytes) (zip a.0 sections) in
-    let made : events_with order bytes entries (each_of (noted_attribute order) 0 entries) (note_sections order bytes all) ≡ (checked_events events >>= λ found. Ok (pipe_with order (drop 16 bytes) events)) =
-    rw (some, a.1, read) (once (checked_events events) events (pipe_with order (drop 16 bytes))) in
+    let made : events_with order bytes (checked_count entries) (each_of (noted_attribute order) 0 entries) (note_sections order bytes all) ≡ (checked_events events >>= λ found. Ok (pipe_with order (drop 16 bytes) events)) =
+    ap (λ c. events_with order bytes c (each_of (noted_attribute order) 0 entries) (note_sections order bytes all)) some
+    ∙ ap (λ r. events_with order bytes (Ok tt) r (note_sections order bytes all)) a.1
+    ∙ ap (λ r. events_with order bytes (Ok tt) (Ok a.0) r) read
+    ∙ once (checked_events events) events (pipe_with order (drop 16 bytes)) in
     record {
       attributes = a.0;
       attributes_are = a.1;
@@ -213,3 +240,20 @@ sections_refused order bytes o e is refused =
     let all = all_frames order (drop 16 bytes) in
     let b = bind_ok (note_sections order bytes all) (λ ss. Ok (min (id_count ss) (length bytes / 8))) o.ids out.ids in
     let both : ◌≡◌ {A = Result (List Section) OpenError} (Ok b.0) (Err e) = sym b.1 ∙ refused in absurd (cc)
+
+-- there are as many events as notes of attributes
+pub outline_count : (order : Dynamic) (bytes : List ℕ) (o : Outline) → pipe_outline order bytes ≡ Ok o → o.events ≡ length (filter (is_of 64) (all_frames order (drop 16 bytes)))
+outline_count order bytes o is =
+    let entries = filter (is_of 64) (all_frames order (drop 16 bytes)) in
+    let out = outlined order bytes o is in
+    let a = bind_ok (each_of (noted_attribute order) 0 entries) (λ ats. Ok (length ats)) o.events out.events in
+    let count : length a.0 ≡ o.events = let z = a.2 in cc in
+    sym count ∙ each_length (noted_attribute order) 0 entries a.0 a.1
+
+-- an attribute that is refused
+pub attributes_refused : (order : Dynamic) (bytes : List ℕ) (o : Outline) (e : OpenError) → pipe_outline order bytes ≡ Ok o → each_of (noted_attribute order) 0 (filter (is_of 64) (all_frames order (drop 16 bytes))) ≡ Err e → ⊥
+attributes_refused order bytes o e is refused =
+    let entries = filter (is_of 64) (all_frames order (drop 16 bytes)) in
+    let out = outlined order bytes o is in
+    let a = bind_ok (each_of (noted_attribute order) 0 entries) (λ ats. Ok (length ats)) o.events out.events in
+    let both : ◌≡◌ {A = Result (List perf_event_attr) OpenError} (Ok a.0) (Err e) = sym a.1 ∙ refused in absurd (cc)
