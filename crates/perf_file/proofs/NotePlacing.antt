@@ -16,9 +16,8 @@ use Rattle.perf_file.specs.Forms.{feature_of, notes_of}
 use Rattle.perf_file.specs.NamePlaces.{name_at}
 use Rattle.perf_file.specs.NotePlaces.{IsPlaced}
 use Rattle.perf_file.specs.Numbers.{number}
-use Rattle.perf_file.specs.Opened.{File}
 use Rattle.perf_file.specs.Pieces.{piece_in, after_piece, after_frame, first_pieces, payload_length, drop_most}
-use Rattle.perf_file.specs.Pipes.{FrameNote, note_in, body_seen, pipe_with, is_of, is_note, all_frames, pipe_order, newer, has_number, own_feature, noted_feature, has_name, new_name}
+use Rattle.perf_file.specs.Pipes.{FrameNote, note_in, body_seen, pipe_with, is_of, is_note, all_frames, pipe_order, newer, own_feature, noted_feature, has_name, new_name}
 use Rattle.perf_file.proofs.Laws.{short, first}
 use Rattle.perf_file.proofs.Noted.{body_there}
 
@@ -94,6 +93,7 @@ noted_alike o feature (n ∷ ns) = go (noted_alike o feature ns) (is_note n) ref
     older : (a : Option (List ℕ)) → newer a None ≡ a
     older (Some x) = refl
     older None = refl
+
     go : noted_feature o feature (filter is_note ns) ≡ noted_feature o feature ns → (b : Bool) → is_note n ≡ b → (c : Bool) → is_of 80 n ≡ c → noted_feature o feature (filter is_note (n ∷ ns)) ≡ noted_feature o feature (n ∷ ns)
     go rest true is c on =
         let here : filter is_note (n ∷ ns) ≡ n ∷ filter is_note ns = ap (λ x. cond x (n ∷ filter is_note ns) (filter is_note ns)) is in
@@ -174,5 +174,6 @@ placed_name bytes name n placed long is =
     short_most zero xs = omega arith
     short_most (suc i) [] = omega arith
     short_most (suc i) (x ∷ xs) = let a = short_most i xs in omega (arith, a)
+
     not_zero : (i : ℕ) → nat_eq (i + 24) 0 ≡ false
     not_zero i = grind (arith)

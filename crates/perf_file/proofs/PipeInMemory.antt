@@ -1,18 +1,17 @@
 -- What a pipe is, by what the calls over memory of the caller's return.
-use Rattle.std.proofs.Common.{◌≡◌, ℕ, zero, suc, ◌+◌, ◌*◌, ◌/◌, ◌≤◌, ◌<◌, ◌||◌, List, [], ◌∷◌, length, map, drop, min, zip, Bool, true, false, cond, Option, Some, None, Result, Ok, Err, nat_eq, nat_lt, inl, inr, refl, sym, ap, ◌∙◌, arith}
+use Rattle.std.proofs.Common.{◌≡◌, ℕ, ◌/◌, ◌≤◌, ◌||◌, List, [], ◌∷◌, length, map, drop, min, zip, Bool, true, false, cond, Option, Some, None, Result, Ok, Err, nat_eq, nat_lt, inl, inr, refl, sym, ap, ◌∙◌, arith}
 use Rattle.std.specs.List.{filter, list_any}
 use Rattle.std.specs.Prelude.{if◌then◌else◌}
-use Rattle.std.proofs.lemmas.Bool.{lt-ltb, le-ltb, eqb-true, cases_lt}
-use Rattle.std.proofs.lemmas.List.Sums.{sum_by-cons}
+use Rattle.std.proofs.lemmas.Bool.{lt-ltb, eqb-true, cases_lt}
 use Rattle.perf_base.specs.Dynamic.{order_of}
 use Rattle.perf_base.specs.declared.endian.Dynamic.{Dynamic}
 use Rattle.perf_base.specs.declared.sys.perf_event_attr.{perf_event_attr}
 use Rattle.perf_file.specs.Forms.{opened}
 use Rattle.perf_file.specs.IdPlaces.{checked_places}
 use Rattle.perf_file.specs.IdTables.{id_table, checked_table}
-use Rattle.perf_file.specs.Opened.{File, FileEvent, opened_file, event_in, checked_events, attributes_of, table_of}
+use Rattle.perf_file.specs.Opened.{File, FileEvent, opened_file, event_in, checked_events, table_of}
 use Rattle.perf_file.specs.Opens.{◌>>=◌}
-use Rattle.perf_file.specs.Outlines.{outline, id_count, table_in, words_in}
+use Rattle.perf_file.specs.Outlines.{outline, id_count, table_in}
 use Rattle.perf_file.specs.PipeOutlines.{pipe_outline, pipe_outline_with, pipe_head, form_outline, checked_frames, checked_number, counted_attributes, counted_note_ids, note_sections}
 use Rattle.perf_file.specs.Pipes.{FrameNote, pipe_order, pipe_with, is_of, is_note, is_compressed, all_frames, checked_notes, checked_count, each_of, noted_attribute, noted_ids, found_events, opened_pipe}
 use Rattle.perf_file.specs.declared.error.OpenError.{OpenError}
@@ -85,6 +84,7 @@ some_count a ats = ap (λ (b : Bool). number_by b) (go (nat_eq (length (a ∷ at
   where
     number_by : Bool → Result (Unit {0}) OpenError
     number_by b = if b then Err errors.NoAttributes else Ok tt
+
     go : (b : Bool) → nat_eq (length (a ∷ ats)) 0 ≡ b → nat_eq (length (a ∷ ats)) 0 ≡ false
     go true e = let z = eqb-true (length (a ∷ ats)) 0 e in absurd (omega (arith, z))
     go false e = e

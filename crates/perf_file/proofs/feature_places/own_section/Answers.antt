@@ -1,4 +1,4 @@
-use Rattle.std.proofs.Common.{ℕ, List, Bool, Some, None, drop, ap, sym, ◌∙◌}
+use Rattle.std.proofs.Common.{ℕ, List, Bool, Some, None, drop, ap, ◌∙◌}
 use Rattle.std.specs.Prelude.{if◌then◌else◌}
 use Rattle.perf_file.proofs.NotePlacing.{after_number}
 use Rattle.perf_file.proofs.feature_places.own_section.Goals as goal

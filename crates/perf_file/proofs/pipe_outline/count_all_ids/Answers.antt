@@ -1,4 +1,4 @@
-use Rattle.std.proofs.Common.{◌≡◌, ℕ, ◌+◌, ◌/◌, ◌≤◌, List, Ok, min, length, ap, sym, ◌∙◌, arith}
+use Rattle.std.proofs.Common.{◌≡◌, ℕ, ◌+◌, ◌/◌, List, Ok, min, length, ap, sym, ◌∙◌, arith}
 use Rattle.perf_file.specs.NoteViews.{notes_left}
 use Rattle.perf_file.specs.Outlines.{id_count}
 use Rattle.perf_file.specs.PipeOutlines.{from_notes}
