@@ -232,7 +232,7 @@ check_more() {
 
 # The lines of the bundled files, of which that of a big-endian machine is a copy of another.
 check_file_lines() {
-    for name in events machine group killed big-endian; do
+    for name in events machine group killed big-endian pipe; do
         expected=$top/examples/$name
         [ $name != big-endian ] || expected=$top/examples/events
         "$1/file" --lines file "$top/examples/$name.data" >"$work/text"
@@ -242,6 +242,13 @@ check_file_lines() {
         "$1/file" --lines events "$top/examples/$name.data" >"$work/text"
         compare "events of examples/$name.data" "$expected.events" "$work/text"
     done
+    # what perf wrote into a file and to a pipe has one command, but for its output
+    printf '%s\n' vm 6.18.44-fc-v595 /usr/bin/perf record -q -B -o - >"$work/theirs"
+    "$1/file" --lines header "$top/examples/pipe.data" | head -n 8 >"$work/text"
+    compare "machine and command of examples/pipe.data" "$work/theirs" "$work/text"
+    "$1/file" --lines header "$top/examples/pipe.data" | sed 's/^-$/events.data/' >"$work/theirs"
+    "$1/file" --lines header "$top/examples/events.data" >"$work/text"
+    compare "the same of examples/events.data" "$work/theirs" "$work/text"
 }
 
 # The frames of each event of the example, counted as its expected text has them, and of a file that perf writes on

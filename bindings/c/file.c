@@ -4,7 +4,8 @@
  * returned then, nothing outside the arguments may be touched (build it with sanitizers).
  *
  * file --lines file|time FILE prints what `perf_data dump --order file|time FILE` prints, if each frame is
- * of an event or perf's own, and file --lines events FILE what `perf_data events FILE` does. */
+ * of an event or perf's own, and file --lines events FILE what `perf_data events FILE` does; file --lines
+ * header FILE the machine, the release of its kernel and the words of the command, a line each. */
 #include <stdio.h>
 #include <stdlib.h>
 #include <string.h>
@@ -65,12 +66,12 @@ static void read_entries(const uint8_t *bytes, size_t len, struct recording *rec
 static void read_names(const uint8_t *bytes, size_t len, struct recording *recording)
 {
     struct ped_name *names = room(recording->file.events, sizeof *names);
-    if (ped_file_names(bytes, len, recording->events, recording->file.events, names,
-                       recording->file.events - 1) != PED_FILE_OTHER_COUNT) {
+    if (ped_file_names(bytes, len, recording->events, recording->file.events, recording->ids,
+                       recording->file.ids, names, recording->file.events - 1) != PED_FILE_OTHER_COUNT) {
         fail("too few names are accepted");
     }
-    if (ped_file_names(bytes, len, recording->events, recording->file.events, names,
-                       recording->file.events) != PED_FILE_READ) {
+    if (ped_file_names(bytes, len, recording->events, recording->file.events, recording->ids,
+                       recording->file.ids, names, recording->file.events) != PED_FILE_READ) {
         fail("no names are read");
     }
     free(names);
@@ -101,7 +102,7 @@ static struct recording read_recording(const uint8_t *bytes, size_t len)
     if (recording.refusal != PED_FILE_READ) {
         return recording;
     }
-    if (recording.file.events > len / 80 || recording.file.ids > len / 8) {
+    if (recording.file.events > len / 72 || recording.file.ids > len / 8) {
         fail("more events or ids than the file has room for");
     }
     parts = PED_FILE_PARTS(recording.file.events);
@@ -239,6 +240,61 @@ static void print_events(const uint8_t *bytes, size_t len, const struct recordin
     }
 }
 
+/* Prints the text at the front of some bytes, after its length, up to a zero; returns what follows. */
+static const uint8_t *print_text(const struct ped_file *file, const uint8_t *bytes, const uint8_t *end)
+{
+    uint32_t size;
+    if (end - bytes < 4) {
+        fail("a feature is cut");
+    }
+    memcpy(&size, bytes, 4);
+    size = file->order == PED_BIG ? __builtin_bswap32(size) : size;
+    bytes += 4;
+    if ((size_t)(end - bytes) < size) {
+        fail("a feature is cut");
+    }
+    printf("%.*s\n", (int)strnlen((const char *)bytes, size), (const char *)bytes);
+    return bytes + size;
+}
+
+/* Prints what perf states about the machine and the command. */
+static void print_header(const uint8_t *bytes, size_t len, const struct ped_file *file)
+{
+    static const uint8_t features[] = {PED_FEATURE_HOSTNAME, PED_FEATURE_OSRELEASE, PED_FEATURE_CMDLINE};
+    size_t i;
+    for (i = 0; i < sizeof features; i++) {
+        struct ped_part place = {0, 0};
+        const uint8_t *at, *end;
+        if (ped_file_feature(bytes, len, features[i], &place) != PED_FILE_READ) {
+            fail("a feature is absent");
+        }
+        at = bytes + place.at;
+        end = at + place.size;
+        if (features[i] == PED_FEATURE_CMDLINE) {
+            at += 4;
+            while (at < end) {
+                at = print_text(file, at, end);
+            }
+        } else {
+            print_text(file, at, end);
+        }
+    }
+}
+
+/* Looks for all features, whose places are in the file. */
+static void find_features(const uint8_t *bytes, size_t len)
+{
+    int feature;
+    for (feature = 0; feature < 256; feature++) {
+        struct ped_part place = {7, 9};
+        uint32_t found = ped_file_feature(bytes, len, (uint8_t)feature, &place);
+        if (found == PED_FILE_READ ? place.at > len || place.size > len - place.at
+                                   : place.at != 7 || place.size != 9) {
+            fail("a feature is not in the file");
+        }
+    }
+}
+
 /* Prints the lines of all events, or those of all frames in the order of the file or of time. */
 static void print_lines(const char *which, const uint8_t *bytes, size_t len)
 {
@@ -249,6 +305,9 @@ static void print_lines(const char *which, const uint8_t *bytes, size_t len)
     }
     if (strcmp(which, "events") == 0) {
         print_events(bytes, len, &recording);
+        recording.count = 0;
+    } else if (strcmp(which, "header") == 0) {
+        print_header(bytes, len, &recording.file);
         recording.count = 0;
     } else if (strcmp(which, "time") == 0) {
         ped_file_sort(recording.entries, recording.count);
@@ -269,6 +328,7 @@ static void read_changed(const uint8_t *bytes, size_t len, size_t changed, uint8
         copy[changed] = value;
     }
     recording = read_recording(copy, len);
+    find_features(copy, len);
     if (recording.entries != NULL) {
         struct ped_frame frames[BATCH];
         ped_file_sort(recording.entries, recording.count);

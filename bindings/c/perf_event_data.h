@@ -232,7 +232,8 @@ uint32_t ped_identifier(const uint8_t *bytes, size_t len, uint32_t order, uint32
 
 /* ---- files that `perf record` wrote
  *
- * A file is in memory as a whole, mapped or read. ped_file_open states how much memory its events
+ * A file is in memory as a whole, mapped or read: one that `perf record` wrote, or what `perf record -o -`
+ * writes to a pipe. ped_file_open states how much memory its events
  * need, ped_file_events reads them, ped_file_names finds their names, ped_file_next goes over its frames
  * in the order of the file, ped_file_sort puts their entries in order of time, and ped_file_read reads
  * frames, each under its own event. */
@@ -244,7 +245,7 @@ enum ped_file_refusal {
     PED_FILE_NOT_PERF_DATA = 1,  /* fewer than 16 bytes, or it does not begin as perf writes it */
     PED_FILE_OLD_FORMAT = 2,     /* the format before PERFILE2, which perf wrote until 2009 */
     PED_FILE_BAD_HEAD = 3,       /* its head has an unknown size, or is cut off */
-    PED_FILE_PIPE = 4,           /* what `perf record -o -` writes */
+    PED_FILE_PIPE = 4,           /* not returned: what `perf record -o -` writes is read */
     PED_FILE_DIRECTORY = 5,      /* one of several files of `perf record --threads` */
     PED_FILE_COMPRESSED = 6,     /* its frames are compressed, by `perf record -z` */
     PED_FILE_CUT_ATTRIBUTES = 7, /* the attributes end beyond the file */
@@ -259,7 +260,9 @@ enum ped_file_refusal {
     PED_FILE_NO_ID_PLACE = 16,   /* several events without a common place of their ids */
     PED_FILE_SHARED_ID = 17,     /* two events have one id */
     PED_FILE_NO_MEMORY = 18,     /* not returned: no memory is asked for */
-    PED_FILE_OTHER_COUNT = 19    /* no refusal: an array does not have as many elements as it needs */
+    PED_FILE_OTHER_COUNT = 19,   /* no refusal: an array does not have as many elements as it needs */
+    PED_FILE_NO_FEATURE = 20,    /* no refusal: the file does not have the feature */
+    PED_FILE_CUT_FEATURE = 21    /* no refusal: the feature ends beyond the file */
 };
 
 /* A part of a file. */
@@ -317,11 +320,12 @@ struct ped_name {
 };
 
 /* Finds the names of events in a file, writes to each where its name is, and returns PED_FILE_READ.
- * `events` are those that ped_file_events wrote for these bytes, and `names` has as many elements: with
- * another count it returns PED_FILE_OTHER_COUNT. If the file's head is refused it returns why. Nothing is
- * written then. */
+ * `events` and `ids` are those that ped_file_events wrote for these bytes, and `names` has as many
+ * elements as `events`: with another count it returns PED_FILE_OTHER_COUNT. If the file's head is refused
+ * it returns why. Nothing is written then. */
 uint32_t ped_file_names(const uint8_t *bytes, size_t len, struct ped_event *events, size_t event_count,
-                        struct ped_name *names, size_t name_count);
+                        const struct ped_id *ids, size_t id_count, struct ped_name *names,
+                        size_t name_count);
 
 /* Writes the name of an event to `text`, which has room for `room` bytes, as far as there is room, and
  * returns how many bytes it wrote, without a zero byte at the end: in ASCII, as `perf_data events` prints
@@ -332,6 +336,21 @@ size_t ped_event_name(const struct ped_event *event, const uint8_t *bytes, size_
 
 /* How many bytes a name has at most: four for a byte of it in the file, or two numbers. */
 #define PED_NAME_ROOM(event) (4 * (event).name.size + 64)
+
+/* Some features, what perf states about the recording, by its numbers. The first three are texts, each
+ * after its length of four bytes, and may have zeros at their end; the command line is how many words
+ * there are, four bytes, and the words, of which each is such a text. */
+enum ped_feature {
+    PED_FEATURE_HOSTNAME = 3,
+    PED_FEATURE_OSRELEASE = 4,
+    PED_FEATURE_ARCH = 6,
+    PED_FEATURE_CMDLINE = 11
+};
+
+/* Writes where a feature is in a file to `place`, and returns PED_FILE_READ. If the file does not have it,
+ * or is not read, it returns PED_FILE_NO_FEATURE, and if it ends beyond the file PED_FILE_CUT_FEATURE;
+ * nothing is written then. */
+uint32_t ped_file_feature(const uint8_t *bytes, size_t len, uint8_t feature, struct ped_part *place);
 
 /* What the number of an entry is. */
 enum ped_owner {
@@ -425,9 +444,6 @@ static inline const char *ped_file_message(uint32_t refusal)
     case PED_FILE_BAD_HEAD:
         return "the head of the file is cut off, or has an unknown size: copy the file again, or "
                "record again";
-    case PED_FILE_PIPE:
-        return "this is what `perf record -o -` writes: record into a file, with `perf record -o "
-               "perf.data`";
     case PED_FILE_DIRECTORY:
         return "this is one of several files of `perf record --threads`: record again without that "
                "option";
@@ -462,6 +478,8 @@ static inline const char *ped_file_message(uint32_t refusal)
     case PED_FILE_SHARED_ID:
         return "two events have one id, so the file is damaged: copy it again, or record again";
     case PED_FILE_OTHER_COUNT: return "an array does not have as many elements as it needs";
+    case PED_FILE_CUT_FEATURE:
+        return "the feature ends beyond the file, so it is cut off: copy it again, or record again";
     default: return "not a refusal";
     }
 }

@@ -33,6 +33,11 @@ export function isFile(bytes) {
     return MAGICS.includes(String.fromCharCode(...bytes.subarray(0, 8)));
 }
 
+/** Whether the numbers of a file have the lowest byte first. */
+export function isLittleFile(bytes) {
+    return bytes[0] === MAGICS[0].charCodeAt(0);
+}
+
 /** Returns a number of 32 or 64 bits as a BigInt. */
 function unsigned(name, value, bits) {
     const number = BigInt(value);

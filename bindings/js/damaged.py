@@ -1,5 +1,6 @@
 #!/usr/bin/env python3
-"""Prints what the module for Python has of damaged copies of examples/events.data, as test_open.mjs compares it:
+"""Prints what the module for Python has of damaged copies of examples/events.data and pipe.data, as test_open.mjs compares
+it:
 
     PERF_EVENT_DATA_SO=libperf_event_data.so bindings/js/damaged.py
 
@@ -40,8 +41,9 @@ def damaged_copies(data):
 
 
 def main():
-    for data in damaged_copies((TOP / "examples/events.data").read_bytes()):
-        print(text_of(data))
+    for name in "events", "pipe":
+        for data in damaged_copies((TOP / f"examples/{name}.data").read_bytes()):
+            print(text_of(data))
 
 
 main()

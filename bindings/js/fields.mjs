@@ -110,7 +110,7 @@ export const FILE_REFUSALS = Object.freeze([
     ["NotPerfData", "this is no perf.data file: pass a file that `perf record` has written"],
     ["OldFormat", "this file has the format that perf wrote before 2010: record again with a newer perf"],
     ["BadHead", "the head of the file is cut off, or has an unknown size: copy the file again, or record again"],
-    ["Pipe", "this is what `perf record -o -` writes: record into a file, with `perf record -o perf.data`"],
+    undefined,
     ["Directory", "this is one of several files of `perf record --threads`: record again without that option"],
     ["Compressed", "the frames are compressed: run `perf inject -i perf.data -o plain.data`, or record without `-z`"],
     ["CutAttributes", "the attributes end beyond the file, so it is cut off: copy it again, or record again"],
@@ -126,6 +126,8 @@ export const FILE_REFUSALS = Object.freeze([
     ["SharedId", "two events have one id, so the file is damaged: copy it again, or record again"],
     undefined,
     ["OtherCount", "an array does not have as many elements as it needs"],
+    undefined,
+    ["CutFeature", "the feature ends beyond the file, so it is cut off: copy it again, or record again"],
     // up to here
 ]);
 export const FILE_KINDS = Object.freeze(FILE_REFUSALS.map((refusal) => refusal?.[0]));

@@ -4,7 +4,7 @@
 import { numbersOf } from "./batch.mjs";
 import { BIG, bytesOf, viewOf } from "./config.mjs";
 import { ENTRY_WORDS, EVENT, NUMBER, OWNER, putOffset } from "./entries.mjs";
-import { featuresIn } from "./features.mjs";
+import { featureOf, featuresIn, isPipe, lengthOf, notesOf, textsIn } from "./features.mjs";
 import { FILE_REFUSALS } from "./fields.mjs";
 import { FileFrames } from "./file_frames.mjs";
 import { PieceReader } from "./file_readers.mjs";
@@ -20,10 +20,14 @@ const PLACE_BYTES = 16;
 // Where the head has the place of the frames, and the bits of the features; that of the descriptions of events.
 const [FRAMES, FEATURES] = [40, 72];
 const DESCRIPTIONS = 12;
-// The types whose frames announce bytes after them that are no frames, and the width of that number.
-const ANNOUNCING = { 66: 4, 71: 8 };
+// The numbers of features that are texts, and of the words of the command.
+const [HOSTNAME, OSRELEASE, CMDLINE] = [3, 4, 11];
 
-/** Why a file is refused, and what to do. */
+// The number of the refusal of a feature that ends beyond the file, and what is said of one that is damaged.
+const CUT_FEATURE = 21;
+const SHORT_FEATURE = "the feature is damaged: copy the file again, or record again";
+
+/** Why a file or a feature is refused, and what to do. */
 export class RefusedFile extends RangeError {
     constructor(kind, message) {
         super(message);
@@ -83,9 +87,10 @@ class Source {
     #byTime;
     #names;
 
-    constructor(machine, bytes, file) {
+    constructor(machine, bytes, front, file) {
         this.#machine = machine;
         this.bytes = bytes;
+        this.front = front;
         this.view = viewOf(bytes);
         this.file = file;
         this.order = file.order;
@@ -95,7 +100,7 @@ class Source {
 
     /** The names of its events. */
     get names() {
-        this.#names ??= this.#machine.namesIn(namedFront(this), this.file.tables);
+        this.#names ??= this.#machine.namesIn(isPipe(this.bytes) ? this.front : namedFront(this), this.file.tables);
         return this.#names;
     }
 
@@ -103,17 +108,8 @@ class Source {
     miscAt(at) { return this.view.getUint16(at + 4, this.isLittle); }
     sizeAt(at) { return this.view.getUint16(at + 6, this.isLittle); }
 
-    /** How many bytes a frame takes with those that it announces: of TRACING_DATA in whole words of eight. */
-    lengthAt(at) {
-        const size = Math.max(this.sizeAt(at), HEADER_BYTES);
-        const width = ANNOUNCING[this.typeAt(at)];
-        const body = at + HEADER_BYTES;
-        if (width === undefined || Math.min(at + size, this.bytes.length) - body < width) {
-            return size;
-        }
-        return size + (width === 8 ? Number(this.view.getBigUint64(body, this.isLittle))
-            : Math.ceil(this.view.getUint32(body, this.isLittle) / 8) * 8);
-    }
+    /** How many bytes a frame takes with those that it announces. */
+    lengthAt(at) { return lengthOf(this.view, at, this.isLittle); }
 
     frames(entries) { return new FileFrames(this.#machine, this, entries); }
 
@@ -174,7 +170,7 @@ export class FileEvent {
         this.config = config;
         this.type = type;
         this.event = event;
-        this.ids = numbersOf(source.bytes.subarray(idsAt, idsAt + 8 * ids), source.order);
+        this.ids = numbersOf(source.front.subarray(idsAt, idsAt + 8 * ids), source.order);
     }
 
     /** Its name, as `perf_data events` prints it. */
@@ -190,11 +186,14 @@ export class Recording {
 
     constructor(machine, data) {
         const bytes = bytesOf(data);
-        const file = machine.openFile(frontOf(bytes), bytes.length);
+        const isPiped = isPipe(bytes);
+        const front = isPiped ? notesOf(bytes) : frontOf(bytes);
+        const file = machine.openFile(front, isPiped ? front.length : bytes.length);
         if (file.refusal !== 0) {
             throw new RefusedFile(...FILE_REFUSALS[file.refusal]);
         }
-        this.#source = new Source(machine, bytes, file);
+        file.end = isPiped ? bytes.length : file.end;
+        this.#source = new Source(machine, bytes, front, file);
         this.bytes = bytes;
         this.order = file.order;
         this.isClosed = file.isClosed;
@@ -203,6 +202,35 @@ export class Recording {
 
     /** How reading the frames ended. */
     get end() { return ENDS[this.#source.ended.how]; }
+
+    /** The bytes of a feature, by the number that perf gives it, or undefined. */
+    feature(number) {
+        const found = featureOf(this.bytes, this.#source.isLittle, number);
+        if (found === null) {
+            throw new RefusedFile(...FILE_REFUSALS[CUT_FEATURE]);
+        }
+        return found;
+    }
+
+    /** The machine on which was recorded, the release of its kernel, and the words of the command. */
+    get hostname() { return this.#textsOf(HOSTNAME)?.[0]; }
+    get osRelease() { return this.#textsOf(OSRELEASE)?.[0]; }
+    get commandLine() { return this.#textsOf(CMDLINE); }
+
+    #textsOf(number) {
+        const found = this.feature(number);
+        if (found === undefined) {
+            return undefined;
+        }
+        const { isLittle } = this.#source;
+        const isCounted = number === CMDLINE;
+        const count = !isCounted ? 1 : found.length < 4 ? 0 : viewOf(found).getUint32(0, isLittle);
+        const texts = isCounted && found.length < 4 ? null : textsIn(found.subarray(isCounted ? 4 : 0), isLittle, count);
+        if (texts === null) {
+            throw new RefusedFile("Short", SHORT_FEATURE);
+        }
+        return texts;
+    }
 
     /** All frames, in order of "time" or in that of the "file". */
     frames(order = "time") {

@@ -165,17 +165,19 @@ export class Machine {
     }
 
     /** The names of events, which are in the file of these bytes; without bytes, those by their numbers. */
-    namesIn(bytes, { events, eventCount }) {
+    namesIn(bytes, { events, eventCount, ids, idCount }) {
         this.putPiece(bytes);
         this.#tables = undefined;
         const place = aligned(this.piece + bytes.length);
-        const names = place + events.length;
+        const idPlace = place + events.length;
+        const names = idPlace + ids.length;
         const text = names + NAME_BYTES * eventCount;
         this.#needs(text);
         new Uint8Array(this.memory.buffer, place, events.length).set(events);
+        new Uint8Array(this.memory.buffer, idPlace, ids.length).set(ids);
         const file = [this.piece, bytes.length].map(BigInt);
         if (bytes.length > 0) {
-            this.calls.ped_file_names(...file, ...[place, eventCount, names, eventCount].map(BigInt));
+            this.calls.ped_file_names(...file, ...[place, eventCount, idPlace, idCount, names, eventCount].map(BigInt));
         }
         return Array.from({ length: eventCount }, (_, number) => this.#nameOf(place + EVENT_BYTES * number, file, text));
     }
@@ -194,7 +196,7 @@ export class Machine {
         const view = new DataView(events.buffer);
         view.setUint32(TYPE, type, true);
         view.setBigUint64(EVENT, event, true);
-        return this.namesIn(new Uint8Array(), { events, eventCount: 1 })[0];
+        return this.namesIn(new Uint8Array(), { events, eventCount: 1, ids: new Uint8Array(), idCount: 0 })[0];
     }
 
     /** Puts what is known of a file to its places, with a piece of that many bytes as its frames. Returns these as

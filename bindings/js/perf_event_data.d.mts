@@ -23,9 +23,9 @@ export type Order = 0 | 1;
 /** A number of a record, a byte string as a view of the input, or the numbers of a list. */
 export type Field = bigint | Uint8Array | BigUint64Array;
 export type Refusal = "Eof" | "InvalidRecord" | "UnsupportedConfig" | "UnsupportedData";
-export type FileRefusal = "NotPerfData" | "OldFormat" | "BadHead" | "Pipe" | "Directory" | "Compressed"
+export type FileRefusal = "NotPerfData" | "OldFormat" | "BadHead" | "Directory" | "Compressed"
     | "CutAttributes" | "CutFrames" | "CutIds" | "BadEntry" | "NoEvent" | "BadAttribute" | "NewAttribute" | "BadIds"
-    | "Overlap" | "NoIdPlace" | "SharedId" | "OtherCount";
+    | "Overlap" | "NoIdPlace" | "SharedId" | "OtherCount" | "CutFeature" | "Short";
 /** Numbers of all frames, or byte strings or lists. */
 export type Column = BigUint64Array | Float64Array | Uint32Array | Uint16Array
     | (Uint8Array | BigUint64Array | undefined)[];
@@ -172,7 +172,7 @@ export class FileEvent {
     readonly frames: FileFrames;
 }
 
-/** A file of `perf record`, all of whose bytes are in memory. */
+/** A file of `perf record`, or what it writes to a pipe, all of whose bytes are in memory. */
 export class Recording {
     private constructor();
     readonly bytes: Uint8Array;
@@ -186,9 +186,16 @@ export class Recording {
     /** All frames, in order of "time", also if no order is given, or in that of the "file". Frames without a time come
      * first, and frames of the same time are in the order of the file. Throws a RangeError for another order. */
     frames(order?: "time" | "file"): FileFrames;
+    /** The bytes of a feature, by the number that perf gives it (`HEADER_*` of its util/header.h); undefined if the file
+     * does not have it. Throws a RefusedFile if it ends beyond the file, or, below, if its numbers state more bytes. */
+    feature(number: number): Uint8Array | undefined;
+    /** The machine on which was recorded, the release of its kernel, and the words of the command. */
+    readonly hostname: string | undefined;
+    readonly osRelease: string | undefined;
+    readonly commandLine: readonly string[] | undefined;
 }
 
-/** Why a file is refused, and what to do: `kind`, one of `FILE_KINDS`. */
+/** Why a file or a feature is refused, and what to do: `kind`, one of `FILE_KINDS`, or "Short". */
 export class RefusedFile extends RangeError {
     constructor(kind: FileRefusal, message: string);
     readonly kind: FileRefusal;

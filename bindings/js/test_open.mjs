@@ -69,6 +69,43 @@ function compareLines() {
     }
 }
 
+/** What perf wrote to a pipe has the lines of perf, and states the same as a file of the same command. */
+function comparePipe() {
+    const pipe = bytesIn("examples/pipe.data");
+    const recording = ped.open(pipe);
+    const [dump, time, events] = ["dump", "time", "events"].map((it) => linesIn(textIn(`examples/pipe.${it}`)));
+    compare("text of examples/pipe.dump", dump, linesOf(recording.frames("file")));
+    compare("text of examples/pipe.time", time, linesOf(recording.frames("time")));
+    compare("text of examples/pipe.events", events, recording.events.map(eventLine));
+    for (const [name, bytes, output] of [["events", data, "events.data"], ["pipe", pipe, "-"]]) {
+        const { hostname, osRelease, commandLine } = ped.open(bytes);
+        const words = ["/usr/bin/perf", "record", "-q", "-B", "-o", output, "-e"];
+        compare(`the machine and the command of examples/${name}.data`, ["vm", "6.18.44-fc-v595", 17, ...words],
+            [hostname, osRelease, commandLine.length, ...commandLine.slice(0, 7)]);
+    }
+    const killed = ped.open(bytesIn("examples/killed.data"));
+    check("a file of a perf that was killed has no features", killed.hostname === undefined
+        && killed.commandLine === undefined);
+    const table = numberAt(data, FRAMES) + numberAt(data, SIZE); // of which the first is the name of the machine
+    for (const [kind, at] of [["Short", numberAt(data, table) + 1], ["CutFeature", table + 7]]) {
+        const bytes = data.slice();
+        bytes[at] = 1;
+        const damaged = ped.open(bytes);
+        const refusal = errorOf(() => damaged.hostname);
+        check(`a feature is refused alone: ${refusal?.message}`, refusal instanceof RefusedFile && refusal.kind === kind
+            && damaged.osRelease === "6.18.44-fc-v595");
+    }
+}
+
+function errorOf(call) {
+    try {
+        call();
+    } catch (error) {
+        return error;
+    }
+    return undefined;
+}
+
 /** What a pattern finds in the lines of perf, undefined for each line in which it finds nothing. */
 const foundIn = (lines, pattern) => lines.map((text) => pattern.exec(text)?.[1]);
 
@@ -214,7 +251,7 @@ const [firstId, secondId] = [ids, ids + entry].map((at) => numberAt(data, at));
 
 // A damaged file for each kind of refusal.
 const DAMAGED = {
-    NotPerfData: new Uint8Array(), BadHead: data.subarray(0, 50), Pipe: changed([8, 16]),
+    NotPerfData: new Uint8Array(), BadHead: data.subarray(0, 50),
     OldFormat: joined(new TextEncoder().encode("PERFFILE"), data.subarray(8)), NoEvent: changed([LENGTH, 0]),
     Directory: changed([FEATURES, 1 << 24]), Compressed: changed([FEATURES, 1 << 27]), BadEntry: changed([ENTRY, 79]),
     CutAttributes: changed([LENGTH, 1 << 20]), CutFrames: data.subarray(0, 4000), CutIds: changed([ids + 8, 1 << 20]),
@@ -252,7 +289,7 @@ function tryRefusals() {
         check("its kind", refusalOf(bytes)?.kind === kind);
     }
     const others = FILE_KINDS.filter((kind) => kind && !(kind in DAMAGED));
-    check("each kind was tried but that of a wrong count", others.join() === "OtherCount");
+    check("each kind was tried but those of no file", others.join() === "OtherCount,CutFeature");
     try {
         ped.open("text");
         check("a text is no input", false);
@@ -314,13 +351,13 @@ function textOf(bytes) {
 }
 
 /** Copies that are cut at each length below 4 kB, and with each of the first 2,048 bytes set to 0 and to 255. */
-function* damagedCopies() {
+function* damagedCopies(whole) {
     for (let length = 0; length < 4096; length++) {
-        yield data.slice(0, length);
+        yield whole.slice(0, length);
     }
     for (const byte of [0, 255]) {
         for (let at = 0; at < 2048; at++) {
-            const bytes = data.slice();
+            const bytes = whole.slice();
             bytes[at] = byte;
             yield bytes;
         }
@@ -328,16 +365,19 @@ function* damagedCopies() {
 }
 
 function tryDamagedCopies() {
-    const found = Array.from(damagedCopies(), textOf);
+    const found = Array.from(damagedCopies(data), textOf);
     const kinds = new Set(foundIn(found, /^(\w+): /).filter((kind) => kind !== undefined));
     check(`${found.length} damaged copies: ${kinds.size} kinds of refusals, and no other error`, found.length === 8192
         && kinds.size > 8 && found.slice(0, 4096).every((text) => /^\w+: /.test(text)));
+    const ofPipe = Array.from(damagedCopies(bytesIn("examples/pipe.data")), textOf);
+    const read = ofPipe.filter((text) => /^\d+ events/.test(text)).length;
+    check(`${ofPipe.length} damaged copies of a pipe: ${read} are read`, read > 2000 && read < 8192);
     if (!process.env.PERF_EVENT_DATA_SO) {
         tell("skipped", "the same in Python: PERF_EVENT_DATA_SO is not set");
         return;
     }
     const ran = spawnSync("python3", [join(TOP, "bindings/js/damaged.py")], { maxBuffer: 1 << 30 });
-    compare("the same in Python", linesIn(ran.stdout.toString()), found);
+    compare("the same in Python", linesIn(ran.stdout.toString()), [...found, ...ofPipe]);
 }
 
 // ---- large files
@@ -457,6 +497,6 @@ function measure() {
 }
 
 await run([
-    compareLines, tryColumns, tryCalls, tryBigOrder, tryPayloads, tryRefusals, tryDamagedFrames, tryDamagedCopies,
+    compareLines, comparePipe, tryColumns, tryCalls, tryBigOrder, tryPayloads, tryRefusals, tryDamagedFrames, tryDamagedCopies,
     tryPieces, tryNested, tryLong, tryMemory, measure,
 ]);

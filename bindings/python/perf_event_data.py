@@ -71,7 +71,6 @@ _FILE_REFUSALS = {
     1: ("NotPerfData", "this is no perf.data file: pass a file that `perf record` has written"),
     2: ("OldFormat", "this file has the format that perf wrote before 2010: record again with a newer perf"),
     3: ("BadHead", "the head of the file is cut off, or has an unknown size: copy the file again, or record again"),
-    4: ("Pipe", "this is what `perf record -o -` writes: record into a file, with `perf record -o perf.data`"),
     5: ("Directory", "this is one of several files of `perf record --threads`: record again without that option"),
     6: ("Compressed",
         "the frames are compressed: run `perf inject -i perf.data -o plain.data`, or record without `-z`"),
@@ -89,7 +88,10 @@ _FILE_REFUSALS = {
     16: ("NoIdPlace",
          "the events have their ids at different places: record all of them with one `perf record`"),
     17: ("SharedId", "two events have one id, so the file is damaged: copy it again, or record again"),
-    19: ("OtherCount", "an array does not have as many elements as it needs")}
+    19: ("OtherCount", "an array does not have as many elements as it needs"),
+    21: ("CutFeature", "the feature ends beyond the file, so it is cut off: copy it again, or record again")}
+_NO_FEATURE = 20
+_SHORT = "the feature is damaged: copy the file again, or record again"
 _NO_EVENT = {2: "its id is that of no event of the file", 3: "it is too short for an id"}
 FILE_KINDS = {number: kind for number, (kind, _) in _FILE_REFUSALS.items()}
 _MAGICS = b"PERFILE2", b"2ELIFREP", b"PERFFILE"
@@ -239,7 +241,8 @@ def _load() -> ctypes.PyDLL:
     file, place = ctypes.POINTER(_File), ctypes.c_void_p
     library.ped_file_open.argtypes = [pointer, size, file]
     library.ped_file_events.argtypes = [pointer, size, place, size, place, size, place, size]
-    library.ped_file_names.argtypes = [pointer, size, place, size, place, size]
+    library.ped_file_names.argtypes = [pointer, size, place, size, place, size, place, size]
+    library.ped_file_feature.argtypes = [pointer, size, ctypes.c_uint8, place]
     library.ped_event_name.argtypes = [place, pointer, size, place, size]
     library.ped_event_name.restype = size
     library.ped_file_next.argtypes = [file, pointer, size, place, size, place, size, pointer, place]
@@ -603,7 +606,7 @@ class Event:
 
 
 class Recording:
-    """A file of `perf record`, all of whose bytes are in memory.
+    """A file of `perf record`, or what `perf record -o -` writes to a pipe, all of whose bytes are in memory.
 
     `events` are its events, `order` is that of its numbers, and `is_closed` whether perf ended regularly;
     otherwise the frames extend to the end of the file. `end` is how reading ended: "done" or "cut header"."""
@@ -626,7 +629,7 @@ class Recording:
         self._ids = rooms[1]
         self._accept(_library.ped_file_events(*self._bytes, self._events, events, rooms[0], parts, self._ids, ids))
         names = ctypes.create_string_buffer(32 * max(events, 1))
-        self._accept(_library.ped_file_names(*self._bytes, self._events, events, names, events))
+        self._accept(_library.ped_file_names(*self._bytes, self._events, events, self._ids, ids, names, events))
         self.order, self.is_closed = self._file.order, bool(self._file.is_closed)
         self.events = [self._event(number, event) for number, event in enumerate(self._events[:events])]
         self._entries, how, self._taken = self._read_entries()
@@ -647,6 +650,57 @@ class Recording:
         entries = bytearray(self._entries)
         _library.ped_file_sort(_address(memoryview(entries)), len(entries) // _ENTRY.size)
         return entries
+
+    def feature(self, number: int) -> memoryview | None:
+        """Returns the bytes of a feature, by the number that perf gives it (`HEADER_*` of its `util/header.h`), or None
+        if the file does not have it. Raises RefusedFile if it ends beyond the file."""
+        if not 0 <= number < 256:
+            raise Error("the number of a feature is below 256")
+        place = (ctypes.c_uint64 * 2)()
+        found = _library.ped_file_feature(*self._bytes, number, place)
+        if found == _NO_FEATURE:
+            return None
+        self._accept(found)
+        return self.data[place[0]:place[0] + place[1]]
+
+    @property
+    def hostname(self) -> str | None:
+        """The name of the machine on which was recorded."""
+        return self._text(3)
+
+    @property
+    def os_release(self) -> str | None:
+        """The release of the kernel that ran there."""
+        return self._text(4)
+
+    @property
+    def command_line(self) -> list[str] | None:
+        """The words of the command that recorded, of which the first is the path of perf."""
+        found = self.feature(11)
+        if found is None:
+            return None
+        count, left = self._number(found), found[4:]
+        words = []
+        for _ in range(count):
+            word, left = self._first_text(left)
+            words.append(word)
+        return words
+
+    def _text(self, feature: int) -> str | None:
+        found = self.feature(feature)
+        return None if found is None else self._first_text(found)[0]
+
+    def _number(self, data: memoryview) -> int:
+        if len(data) < 4:
+            raise RefusedFile("Short", _SHORT)
+        return int.from_bytes(data[:4], ("little", "big")[self.order])
+
+    def _first_text(self, data: memoryview) -> tuple[str, memoryview]:
+        """Returns the text at the front, before a zero, and the bytes after it. Its length comes first."""
+        end = 4 + self._number(data)
+        if len(data) < end:
+            raise RefusedFile("Short", _SHORT)
+        return bytes(data[4:end]).partition(b"\0")[0].decode(errors="backslashreplace"), data[end:]
 
     @staticmethod
     def _accept(refusal: int) -> None:
@@ -714,7 +768,7 @@ def _payload_length(body: memoryview, type: int, order: int) -> int:
 
 
 def open(path: str | os.PathLike[str]) -> Recording:
-    """Opens a file that `perf record` wrote, by mapping it. It must not change while it is in use.
+    """Opens a file that `perf record` wrote, also by way of a pipe, by mapping it. It must not change while it is in use.
 
     Raises RefusedFile if it is refused, and OSError if it cannot be read. `Recording` takes bytes in memory."""
     with builtins.open(path, "rb") as file:

@@ -408,7 +408,7 @@ def try_numpy():
 
 # ---- files of perf record
 
-EVENTS, MACHINE, GROUP, KILLED = (TOP / f"examples/{name}.data" for name in ("events", "machine", "group", "killed"))
+EVENTS, MACHINE, GROUP, KILLED, PIPE = (TOP / f"examples/{name}.data" for name in ("events", "machine", "group", "killed", "pipe"))
 # In the order of enum ped_file_refusal, with which the header's ped_file_message has the texts.
 HEADER = (TOP / "bindings/c/perf_event_data.h").read_text()
 
@@ -453,6 +453,30 @@ def try_texts_of_files():
         check(f"the order of {text}, and whether perf ended",
               found == [(ped.LITTLE, path != KILLED), (ped.BIG, path != KILLED)])
     compare_file("examples/big-endian.data", EVENTS, ped.open(EVENTS.with_name("big-endian.data")))
+    compare_file("examples/pipe.data", PIPE, ped.open(PIPE))
+
+
+def try_features():
+    """The machine, the release of its kernel and the words of the command, as examples/record-events.sh has these."""
+    for path, output in (EVENTS, "events.data"), (PIPE, "-"):
+        recording, words = ped.open(path), ["/usr/bin/perf", "record", "-q", "-B", "-o", output, "-e"]
+        check(f"what examples/{path.name} states of the machine and the command",
+              (recording.hostname, recording.os_release, recording.command_line[:7], len(recording.command_line))
+              == ("vm", "6.18.44-fc-v595", words, 17) and recording.feature(255) is None)
+    killed = ped.open(KILLED)
+    check("a file of a perf that was killed has no features", (killed.hostname, killed.command_line) == (None, None))
+    data = bytearray(EVENTS.read_bytes())
+    table = sum(struct.unpack_from("<QQ", data, 40))  # the first feature is the name of the machine
+    name_at, = struct.unpack_from("<Q", data, table)
+    for kind, at in ("Short", name_at + 1), ("CutFeature", table + 7):
+        changed = bytearray(data)
+        changed[at] = 1
+        recording = ped.Recording(changed)
+        try:
+            check(f"a feature is refused: {recording.hostname}", False)
+        except ped.RefusedFile as refusal:
+            check(f"a feature is refused alone: {refusal}", refusal.kind == kind and recording.os_release == "6.18.44-fc-v595")
+    refuses("a feature of more than eight bits is refused", lambda: recording.feature(256))
 
 
 def try_frames_of_a_file():
@@ -476,8 +500,7 @@ def try_refused_files():
     check("the refusals of files are those of the header", ped._FILE_REFUSALS == expected)
     data = EVENTS.read_bytes()
     damaged = {"NotPerfData": b"", "OldFormat": b"PERFFILE" + data[8:], "BadHead": data[:50], "CutFrames": data[:4000],
-               "Compressed": data[:75] + bytes([data[75] | 8]) + data[76:],
-               "Pipe": EVENTS.with_name("pipe.data").read_bytes()}
+               "Compressed": data[:75] + bytes([data[75] | 8]) + data[76:], "NoEvent": PIPE.read_bytes()[:16]}
     for kind, given in damaged.items():
         try:
             ped.Recording(given)
@@ -525,6 +548,11 @@ def read_all(data):
         recording = ped.Recording(data)
     except ped.RefusedFile as refusal:
         return refusal.kind
+    for number in range(256):
+        try:
+            recording.feature(number)
+        except ped.RefusedFile as refusal:
+            assert refusal.kind == "CutFeature"
     frames = recording.frames("time")
     for frame in frames:
         assert len(frame.fields) < 28 and spans_are_inside(frame) and frame.length <= len(data) - frame.at
@@ -547,6 +575,13 @@ def try_hostile_files():
         found.append(read_all(data[:index] + bytes([byte]) + data[index + 1:]))
     check(f"{len(found)} files with one byte changed: {found.count(None)} are read, {len(set(found)) - 1} refusals",
           len(found) == 4096 and len(set(found)) > 8)
+    pipe = PIPE.read_bytes()
+    lengths = [*range(0, 700), *range(700, len(pipe), 97)]
+    found = [read_all(pipe[:length]) for length in lengths]
+    check(f"{len(lengths)} pipes that are cut: {found.count(None)} are read", None not in found[:100] and len(set(found)) > 2)
+    found = [read_all(pipe[:index] + bytes([byte]) + pipe[index + 1:]) for byte in (0, 255) for index in range(2048)]
+    check(f"{len(found)} pipes with one byte changed: {found.count(None)} are read, {len(set(found)) - 1} refusals",
+          len(set(found)) > 4 and None in found)
 
 
 def try_numpy_of_files():
@@ -642,7 +677,7 @@ def main():
     streams = [sys.executable, TOP / "bindings/streams.py", "list", "1", "200"]
     replay("generated streams", subprocess.run(streams, capture_output=True, text=True, check=True).stdout)
     for call in (try_words, try_inputs, try_memory, try_sequence, try_frames, try_wrong_bytes, try_numpy,
-                 try_texts_of_files, try_frames_of_a_file, try_refused_files, try_damaged_frames, try_hostile_files,
+                 try_texts_of_files, try_features, try_frames_of_a_file, try_refused_files, try_damaged_frames, try_hostile_files,
                  try_numpy_of_files, measure):
         call()
     print(", ".join(f"{number} {result.lower()}" for result, number in results.items()))

@@ -225,6 +225,18 @@ def file_of_perf(page):
         same(found, {task: count for task, number, count in counts if int(number) == event}, f"tasks of event {event}")
 
 
+def pipe_of_perf(page):
+    """What perf wrote to a pipe shows its events, and the host, the kernel and the command."""
+    page.start()
+    page.must_open(EXAMPLES / "pipe.data")
+    facts = page.facts()
+    names = [re.match(r"\d+ (.+) type=", line)[1] for line in lines("pipe.events")]
+    same([name for name, *_ in facts["events"]], names, "events of a pipe")
+    same(facts["frames"], str(len(lines("pipe.dump"))), "frames of a pipe")
+    same((facts["host"], facts["kernel"]), ("vm", "6.18.44-fc-v595"), "host and kernel of a pipe")
+    true(facts["command"].startswith("/usr/bin/perf record -q -B -o - -e "), "command line of a pipe")
+
+
 def header_of_perf(page):
     """Host, kernel and command line are those of the file."""
     page.start()
@@ -418,7 +430,7 @@ def hostile(page):
         message = page.open(page.write(f"{name}.data", bad))
         true(message and len(message) > len(name) + 10, f"{name} is refused with a message: {message}")
     message = page.open(page.write("x.data", refused["pipe"]))
-    true(message and "perf record -o -" in message, f"what perf writes to a pipe: {message}")
+    true(message and "no event" in message, f"a pipe without frames: {message}")
     page.must_open(page.write("cut.stream", stream[:2050]))
     true(page.facts()["refusedCount"] == "1" and page.facts()["refused"][0][2], "a cut frame is refused with a reason")
     numbers = random.Random(7)
@@ -672,7 +684,7 @@ def pictures(page, folder):
         (folder / f"{name}.png").write_bytes(page.browser.picture())
 
 
-TESTS = [streams, first_time, file_of_perf, header_of_perf, selected_range, chains, timeline_keys, flame_keys,
+TESTS = [streams, first_time, file_of_perf, pipe_of_perf, header_of_perf, selected_range, chains, timeline_keys, flame_keys,
          flame_weights, tables, markup, dropping, hostile, extremes, refused_bytes, no_network, keys_reach_everything,
          contrast, address, stopping, speed]
 

@@ -193,9 +193,13 @@ extern "C" {
         len: usize,
         events: *mut Event,
         event_count: usize,
+        ids: *const Id,
+        id_count: usize,
         names: *mut Name,
         name_count: usize,
     ) -> u32;
+
+    fn ped_file_feature(bytes: *const u8, len: usize, feature: u8, place: *mut Part) -> u32;
 
     fn ped_event_name(
         event: *const Event,
@@ -313,6 +317,8 @@ impl<'p> Opened<'p> {
                     bytes.len(),
                     events.as_mut_ptr(),
                     events.len(),
+                    ids.as_ptr(),
+                    ids.len(),
                     names.as_mut_ptr(),
                     names.len(),
                 );
@@ -325,6 +331,24 @@ impl<'p> Opened<'p> {
                 events,
                 ids,
             }),
+            refusal => Err(refusal),
+        }
+    }
+
+    /// The bytes of a feature, `None` if the file does not have it, or the number of its refusal.
+    pub(crate) fn feature(&self, feature: u8) -> Result<Option<&'p [u8]>, u32> {
+        let mut place = Part::default();
+        // SAFETY: as in `read`.
+        let found = unsafe {
+            ped_file_feature(self.bytes.as_ptr(), self.bytes.len(), feature, &mut place)
+        };
+        match found {
+            0 => {
+                // the library has found it inside the file
+                let (start, size) = (place.at as usize, place.size as usize);
+                Ok(Some(&self.bytes[start..start + size]))
+            }
+            20 => Ok(None),
             refusal => Err(refusal),
         }
     }

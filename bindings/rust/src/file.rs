@@ -63,9 +63,6 @@ open_errors! {
     /// Its head has an unknown size, or is cut off.
     BadHead = 3 => "the head of the file is cut off, or has an unknown size: copy the file again, \
         or record again",
-    /// It is what `perf record -o -` writes.
-    Pipe = 4 => "this is what `perf record -o -` writes: record into a file, with `perf record -o \
-        perf.data`",
     /// It is one of several files of `perf record --threads`.
     Directory = 5 => "this is one of several files of `perf record --threads`: record again \
         without that option",
@@ -115,6 +112,44 @@ impl fmt::Display for OpenError {
 }
 
 impl Error for OpenError {}
+
+/// Why a feature cannot be read. Its text says what to do.
+#[derive(Copy, Clone, Debug, PartialEq, Eq)]
+pub enum BadFeature {
+    /// It ends beyond the file.
+    PastEnd,
+    /// It has fewer bytes than its numbers state.
+    Short,
+}
+
+impl fmt::Display for BadFeature {
+    fn fmt(&self, f: &mut fmt::Formatter<'_>) -> fmt::Result {
+        f.write_str(match self {
+            Self::PastEnd => {
+                "the feature ends beyond the file, so it is cut off: copy it again, or record again"
+            }
+            Self::Short => "the feature is damaged: copy the file again, or record again",
+        })
+    }
+}
+
+impl Error for BadFeature {}
+
+/// The text at the front of a feature, before a zero, and the bytes after it. Its length comes first.
+fn first_text(order: Dynamic, bytes: &[u8]) -> Result<(&[u8], &[u8]), BadFeature> {
+    let (size, left) = first_number(order, bytes)?;
+    if left.len() < size {
+        return Err(BadFeature::Short);
+    }
+    let (text, left) = left.split_at(size);
+    let end = text.iter().position(|&byte| byte == 0);
+    Ok((&text[..end.unwrap_or(size)], left))
+}
+
+fn first_number(order: Dynamic, bytes: &[u8]) -> Result<(usize, &[u8]), BadFeature> {
+    let four = bytes.first_chunk().ok_or(BadFeature::Short)?;
+    Ok((order.convert_u32(*four) as usize, &bytes[4..]))
+}
 
 /// An event of a file.
 #[derive(Clone, Debug)]
@@ -275,7 +310,8 @@ fn without_event(owner: Owner) -> ParseError {
     ParseError::custom(ErrorKind::UnsupportedConfig, message)
 }
 
-/// A file of `perf record`, all of whose bytes are in memory. They are borrowed.
+/// A file of `perf record`, or what `perf record -o -` writes to a pipe, all of whose bytes are in
+/// memory. They are borrowed.
 #[derive(Clone, Debug)]
 pub struct Recording<'p> {
     raw: ffi::Opened<'p>,
@@ -307,6 +343,44 @@ impl<'p> Recording<'p> {
     /// Returns whether perf ended regularly. Otherwise the frames extend to the end of the file.
     pub fn is_closed(&self) -> bool {
         self.raw.file.is_closed != 0
+    }
+
+    /// Returns the bytes of a feature, by the number that perf gives it (`HEADER_*` of its
+    /// `util/header.h`), or `None` if the file does not have it.
+    pub fn feature(&self, feature: u8) -> Result<Option<&'p [u8]>, BadFeature> {
+        self.raw.feature(feature).map_err(|_| BadFeature::PastEnd)
+    }
+
+    /// Returns the name of the machine on which was recorded.
+    pub fn hostname(&self) -> Result<Option<&'p [u8]>, BadFeature> {
+        self.text(3)
+    }
+
+    /// Returns the release of the kernel that ran there.
+    pub fn os_release(&self) -> Result<Option<&'p [u8]>, BadFeature> {
+        self.text(4)
+    }
+
+    /// Returns the words of the command that recorded, of which the first is the path of perf.
+    pub fn command_line(&self) -> Result<Option<Vec<&'p [u8]>>, BadFeature> {
+        let Some(bytes) = self.feature(11)? else {
+            return Ok(None);
+        };
+        let (count, mut left) = first_number(self.order, bytes)?;
+        let mut words = Vec::new();
+        for _ in 0..count {
+            let (word, after) = first_text(self.order, left)?;
+            words.push(word);
+            left = after;
+        }
+        Ok(Some(words))
+    }
+
+    fn text(&self, feature: u8) -> Result<Option<&'p [u8]>, BadFeature> {
+        let found = self.feature(feature)?;
+        found
+            .map(|bytes| Ok(first_text(self.order, bytes)?.0))
+            .transpose()
     }
 
     /// Returns its events.

@@ -5,7 +5,7 @@ use std::fs;
 use std::io::BufReader;
 
 use perf_event_data::endian::{Dynamic, Little};
-use perf_event_data::file::{Entry, FileFrame, OpenError, Owner, Recording};
+use perf_event_data::file::{BadFeature, Entry, FileFrame, OpenError, Owner, Recording};
 use perf_event_data::parse::{ErrorKind, ParseConfig, Parser};
 use perf_event_data::sys::perf_event_header;
 use perf_event_data::*;
@@ -56,8 +56,9 @@ fn dump(bytes: &[u8]) -> Vec<String> {
 }
 
 /// The bundled files, each with the name of its texts.
-const FILES: [(&str, &str); 5] = [
+const FILES: [(&str, &str); 6] = [
     ("events", "events"),
+    ("pipe", "pipe"),
     ("big-endian", "events"),
     ("machine", "machine"),
     ("group", "group"),
@@ -233,7 +234,53 @@ fn refusals_have_the_texts_of_the_header() {
     packed[75] |= 8;
     assert_eq!(Recording::open(&packed).unwrap_err(), OpenError::Compressed);
     let pipe = file("examples/pipe.data");
-    assert_eq!(Recording::open(&pipe).unwrap_err(), OpenError::Pipe);
+    let mut packed = pipe.clone();
+    packed[16] = 81;
+    assert_eq!(Recording::open(&packed).unwrap_err(), OpenError::Compressed);
+    assert_eq!(
+        Recording::open(&pipe[..16]).unwrap_err(),
+        OpenError::NoEvent
+    );
+}
+
+/// The machine, the release of its kernel and the words of the command, as examples/README.md has them.
+#[test]
+fn a_file_and_a_pipe_state_the_machine_and_the_command() {
+    for (name, output) in [("events", "events.data"), ("pipe", "-")] {
+        let bytes = file(&format!("examples/{name}.data"));
+        let recording = Recording::open(&bytes).unwrap();
+        let release = recording.os_release().unwrap();
+        assert_eq!(recording.hostname().unwrap(), Some(&b"vm"[..]));
+        assert_eq!(release, Some(&b"6.18.44-fc-v595"[..]));
+        let words = recording.command_line().unwrap().unwrap();
+        let words: Vec<_> = words
+            .into_iter()
+            .map(|word| String::from_utf8_lossy(word))
+            .collect();
+        let start = ["/usr/bin/perf", "record", "-q", "-B", "-o", output, "-e"];
+        assert_eq!(words[..7], start);
+        assert_eq!(words.len(), 17);
+        assert_eq!(recording.feature(255), Ok(None));
+    }
+    let killed = file("examples/killed.data");
+    assert_eq!(Recording::open(&killed).unwrap().hostname(), Ok(None));
+}
+
+#[test]
+fn a_damaged_feature_is_refused_alone() {
+    let bytes = file("examples/events.data");
+    let number = |at: usize| u64::from_le_bytes(bytes[at..at + 8].try_into().unwrap()) as usize;
+    // the first feature is the name of the machine
+    let table = number(40) + number(48);
+    let mut changed = bytes.clone();
+    changed[table + 7] = 1;
+    let recording = Recording::open(&changed).unwrap();
+    assert_eq!(recording.hostname(), Err(BadFeature::PastEnd));
+    let mut changed = bytes.clone();
+    changed[number(table) + 1] = 1;
+    let recording = Recording::open(&changed).unwrap();
+    assert_eq!(recording.hostname(), Err(BadFeature::Short));
+    assert!(recording.os_release().unwrap().is_some());
 }
 
 /// Reads all of a file in all ways.
@@ -241,6 +288,10 @@ fn read_all(bytes: &[u8]) {
     let Ok(recording) = Recording::open(bytes) else {
         return;
     };
+    for feature in 0..=255 {
+        let _ = recording.feature(feature);
+    }
+    let _ = recording.command_line();
     let mut list = recording.frames();
     let frames: Vec<_> = list.by_ref().collect();
     assert!(list.end().is_some());
@@ -273,6 +324,15 @@ fn hostile_files_are_read_or_refused() {
     (0..killed.len())
         .step_by(97)
         .for_each(|len| read_all(&killed[..len]));
+    let pipe = file("examples/pipe.data");
+    (0..4096)
+        .chain((4096..pipe.len()).step_by(97))
+        .for_each(|len| read_all(&pipe[..len]));
+    for (index, value) in (0..2048).flat_map(|index| [(index, 0), (index, 255)]) {
+        let mut changed = pipe.clone();
+        changed[index] = value;
+        read_all(&changed);
+    }
     let places: Vec<_> = Recording::open(&bytes).unwrap().in_order();
     for (entry, ty) in places.iter().flat_map(|entry| [(entry, 66), (entry, 71)]) {
         let mut changed = bytes.clone();

@@ -1,6 +1,7 @@
 // Opens the bytes of a recording by the library: a file of `perf record`, or a stream with its attribute in front.
 
 import { isFile, viewOf } from "../../js/config.mjs";
+import { isPipe, periodsOfPipe } from "../../js/features.mjs";
 import { headerOf, ownPeriod } from "./header.mjs";
 
 /** The place in the head of a file of the size of an attribute's entry, and of where the attributes are. */
@@ -11,14 +12,20 @@ function number(bytes, at, isLittle) {
     return Number(viewOf(bytes).getBigUint64(at, isLittle));
 }
 
+/** The period of each event by its attribute's own. */
+function periodsOf({ events }, bytes, isLittle) {
+    const [size, first] = [number(bytes, ENTRY_SIZE, isLittle), number(bytes, ATTRIBUTES, isLittle)];
+    return events.map((_, index) => ownPeriod(bytes, first + size * index, isLittle));
+}
+
 function openFile(library, ped, bytes) {
     const file = ped.open(bytes);
     const isLittle = file.order === library.LITTLE;
     const header = headerOf(bytes, isLittle);
-    const [size, first] = [number(bytes, ENTRY_SIZE, isLittle), number(bytes, ATTRIBUTES, isLittle)];
+    const periods = isPipe(bytes) ? periodsOfPipe(bytes, isLittle) : periodsOf(file, bytes, isLittle);
     const events = file.events.map((event, index) => ({
         index, name: event.name, type: event.type, config: event.event, reading: event.config,
-        ownPeriod: ownPeriod(bytes, first + size * index, isLittle),
+        ownPeriod: periods[index],
     }));
     return {
         bytes, events, header, kind: "file", order: isLittle ? "little" : "big", isClosed: file.isClosed,

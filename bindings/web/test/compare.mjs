@@ -55,6 +55,25 @@ export async function compareEvents() {
         [true, false, true, false]);
 }
 
+/** What perf wrote to a pipe for the same command: its events, its frames, and what it states of the machine. */
+export async function comparePipe() {
+    const model = await opened(bytesIn("examples/pipe.data"));
+    const { overview } = model;
+    same("events of a pipe", overview.events.map((it) => `${it.index} ${it.name} type=${it.type} config=${it.config}`),
+        linesIn("examples/pipe.events").map((line) => line.replace(/ sample_type=.*/, "")));
+    const frames = linesIn("examples/pipe.time").map(frameOfLine);
+    const counts = [0, 1, 2].map((event) => frames.filter((it) => it.name === "Sample" && it.event === String(event)).length);
+    same("samples of each event of a pipe", overview.events.map((it) => it.samples), counts);
+    same("periods of each event of a pipe", overview.events.map((it) => it.period),
+        [overview.events[0].period, 7n * BigInt(counts[1]), BigInt(counts[2])]);
+    same("host, kernel and command of a pipe",
+        [overview.header.hostname, overview.header.osRelease, overview.header.commandLine],
+        [HEADER.hostname, HEADER.osRelease, HEADER.commandLine.replace("-o events.data", "-o -")]);
+    const { rows } = await model.call("records", { filter: {}, sort: "file", offset: 0, count: 1000 });
+    same("rows of a pipe", rows.map((it) => `${it.at} ${it.size} ${it.event ?? "-"}`),
+        linesIn("examples/pipe.dump").map(frameOfLine).map((it) => `${it.at} ${it.size} ${it.event}`));
+}
+
 const STATS = { recording: "examples/recording.stats.txt", samples: "examples/samples.stats.txt" };
 
 export async function compareStreams() {

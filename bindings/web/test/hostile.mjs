@@ -78,7 +78,7 @@ export async function refuseOthers() {
     same("random bytes are no recording", await messageOf(new Model()
         .open(Uint8Array.from({ length: 999 }, numbersFrom(3).bind(null, 256)))), text);
     const pipe = joined([new TextEncoder().encode("PERFILE2"), bytesOf([8, 16])]);
-    check("a pipe", (await messageOf(new Model().open(pipe))).startsWith("this is what `perf record -o -` writes"));
+    check("a pipe without frames", (await messageOf(new Model().open(pipe))).startsWith("the file has no event"));
     same("a call before a file", await messageOf(new Model().call("flame", { filter: {} })), "no recording is open");
     same("a call that there is not", await messageOf(new Model().call("toString")), "there is no call toString");
 }

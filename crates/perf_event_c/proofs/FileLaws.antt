@@ -14,15 +14,18 @@ use Rattle.perf_file.specs.IdTables.{id_table, event_of, checked_table}
 use Rattle.perf_file.specs.Opened.{File, FileEvent, opened_file, event_in, file_with, table_of}
 use Rattle.perf_file.specs.Opens.{◌>>=◌}
 use Rattle.perf_file.specs.Outlines.{id_count, counted_ids, apart_parts, table_in, words_in}
+use Rattle.perf_file.specs.Pipes.{pipe_with, all_frames, opened_pipe}
 use Rattle.perf_file.specs.Sections.{ShareNothing, IsInside}
 use Rattle.perf_file.specs.declared.error.OpenError.{OpenError}
 use Rattle.perf_file.specs.declared.head.Head.{Head}
 use Rattle.perf_file.specs.declared.id_place.IdPlace.{IdPlace}
 use Rattle.perf_file.specs.declared.ids.IdOfEvent.{IdOfEvent}
 use Rattle.perf_file.specs.declared.section.Section.{Section}
+use Rattle.perf_file.specs.declared.summary.Outline.{Outline}
 use Rattle.perf_file.proofs.InMemory.{HasEvents}
+use Rattle.perf_file.proofs.PipeInMemory.{HasNoteEvents}
 use Rattle.perf_file.proofs.Sizes.{ids_fit}
-use Rattle.perf_event_c.specs.FileEvents.{flat_event, flat_events, place_by, first_place, all_at, checked_places, stated, numbers_of, IsRead, ReadsFile}
+use Rattle.perf_event_c.specs.FileEvents.{flat_event, flat_events, note_events, place_by, first_place, all_at, checked_places, stated, numbers_of, IsRead, ReadsFile}
 use Rattle.perf_event_c.specs.declared.file_events.FlatEvent.{FlatEvent}
 
 pub drop_some : {A : Type 0} (xs : List A) (i : ℕ) (d : A) → i < length xs → drop i xs ≡ get_or xs i d ∷ drop (i + 1) xs
@@ -62,33 +65,72 @@ places_are o ats ss same =
 
 -- ---- what is read
 
+-- What opening depends on, once the attributes of its events and the sections of their ids were read:
+-- the places of ids, and the table of them.
+pub record Opens (order : Dynamic) (bytes : List ℕ) (whole : Result File OpenError) (ats : List perf_event_attr) (ss : List Section) : Type 0 where
+  pub made : List FileEvent → File
+  pub many : length ats ≡ length ss
+  pub order_is : (es : List FileEvent) → (made es).order ≡ order
+  pub events_are : (es : List FileEvent) → (made es).events ≡ es
+  pub opens : whole ≡ ((places.checked_places ats >>= λ place. checked_table (table_in (order_of order) bytes ss)) >>= λ found. Ok (made (map (event_in (order_of order) bytes) (zip ats ss))))
+
+-- of a file
+pub opens_file : (bytes : List ℕ) (h : Head) (parts : List Section) (has : HasEvents bytes h parts) → Opens h.order bytes (opened_file bytes) has.attributes has.ids
+opens_file bytes h parts has = record {
+  made = file_with bytes h;
+  many = has.many;
+  order_is = λ es. refl;
+  events_are = λ es. refl;
+  opens = has.opens;
+}
+
+-- of a pipe
+pub opens_pipe : (order : Dynamic) (bytes : List ℕ) (o : Outline) (ss : List Section) (has : HasNoteEvents order bytes o ss) → Opens order bytes (opened_pipe order bytes) has.attributes ss
+opens_pipe order bytes o ss has = record {
+  made = pipe_with order (drop 16 bytes);
+  many = has.many;
+  order_is = λ es. refl;
+  events_are = λ es. refl;
+  opens = has.opens;
+}
+
 -- the events that were written, and those of the definition
-event_list : {bytes : List ℕ} {h : Head} {parts : List Section} (events : List FlatEvent) (has : HasEvents bytes h parts) → flat_events bytes h (drop 3 parts) ≡ Ok events → events ≡ map (flat_event h.order) (zip has.attributes has.ids)
+pub event_list : {bytes : List ℕ} {h : Head} {parts : List Section} (events : List FlatEvent) (has : HasEvents bytes h parts) → flat_events bytes h (drop 3 parts) ≡ Ok events → events ≡ map (flat_event h.order) (zip has.attributes has.ids)
 event_list {bytes} {h} {parts} events has is =
     let made : flat_events bytes h (drop 3 parts) ≡ Ok (map (flat_event h.order) (zip has.attributes has.ids)) = ap (λ r. r >>= λ ats. Ok (map (flat_event h.order) (zip ats (drop 3 parts)))) has.attributes_are ∙ ap (λ ps. Ok (map (flat_event h.order) (zip has.attributes (drop 3 ps)))) has.parts_are in
     let both : ◌≡◌ {A = Result (List FlatEvent) OpenError} (Ok events) (Ok (map (flat_event h.order) (zip has.attributes has.ids))) = sym is ∙ made in
     let same : events ≡ map (flat_event h.order) (zip has.attributes has.ids) = cc in same
 
+-- the same of a pipe
+pub note_list : {order : Dynamic} {bytes : List ℕ} {o : Outline} {ss : List Section} (events : List FlatEvent) (has : HasNoteEvents order bytes o ss) → note_events order (all_frames order (drop 16 bytes)) ss ≡ Ok events → events ≡ map (flat_event order) (zip has.attributes ss)
+note_list {order} {bytes} {o} {ss} events has is =
+    let made : note_events order (all_frames order (drop 16 bytes)) ss ≡ Ok (map (flat_event order) (zip has.attributes ss)) = ap (λ r. r >>= λ ats. Ok (map (flat_event order) (zip ats ss))) has.attributes_are in
+    let both : ◌≡◌ {A = Result (List FlatEvent) OpenError} (Ok events) (Ok (map (flat_event order) (zip has.attributes ss))) = sym is ∙ made in
+    let same : events ≡ map (flat_event order) (zip has.attributes ss) = cc in same
+
+-- the table of a file's ids
+pub file_table : {bytes : List ℕ} {h : Head} {parts : List Section} (ids : List IdOfEvent) (has : HasEvents bytes h parts) → ids ≡ table_in (order_of h.order) bytes (drop 3 parts) → ids ≡ table_in (order_of h.order) bytes has.ids
+file_table {bytes} {h} {parts} ids has is = is ∙ ap (λ ps. table_in (order_of h.order) bytes (drop 3 ps)) has.parts_are
+
 -- events without a common place of their ids are refused
-pub places_refused : (bytes : List ℕ) (h : Head) (parts : List Section) (events : List FlatEvent) (e : OpenError) → HasEvents bytes h parts → flat_events bytes h (drop 3 parts) ≡ Ok events → checked_places events ≡ Err e → opened_file bytes ≡ Err e
-places_refused bytes h parts events e has is refused =
-    let no : places.checked_places has.attributes ≡ Err e = sym (places_are h.order has.attributes has.ids has.many) ∙ ap checked_places (sym (event_list events has is)) ∙ refused in
-    has.opens ∙ ap (λ r. (r >>= λ place. checked_table (table_in (order_of h.order) bytes has.ids)) >>= λ found. Ok (file_with bytes h (map (event_in (order_of h.order) bytes) (zip has.attributes has.ids)))) no
+pub places_refused : (order : Dynamic) (bytes : List ℕ) (whole : Result File OpenError) (ats : List perf_event_attr) (ss : List Section) (events : List FlatEvent) (e : OpenError) → Opens order bytes whole ats ss → events ≡ map (flat_event order) (zip ats ss) → checked_places events ≡ Err e → whole ≡ Err e
+places_refused order bytes whole ats ss events e has is refused =
+    let no : places.checked_places ats ≡ Err e = sym (places_are order ats ss has.many) ∙ ap checked_places (sym is) ∙ refused in
+    has.opens ∙ ap (λ r. (r >>= λ place. checked_table (table_in (order_of order) bytes ss)) >>= λ found. Ok (has.made (map (event_in (order_of order) bytes) (zip ats ss)))) no
 
 -- what opening depends on, once places were compared
-table_left : (bytes : List ℕ) (h : Head) (parts : List Section) (events : List FlatEvent) (has : HasEvents bytes h parts) → flat_events bytes h (drop 3 parts) ≡ Ok events → checked_places events ≡ Ok tt
-    → opened_file bytes ≡ (checked_table (table_in (order_of h.order) bytes has.ids) >>= λ found. Ok (file_with bytes h (map (event_in (order_of h.order) bytes) (zip has.attributes has.ids))))
-table_left bytes h parts events has is fine =
-    let yes : places.checked_places has.attributes ≡ Ok tt = sym (places_are h.order has.attributes has.ids has.many) ∙ ap checked_places (sym (event_list events has is)) ∙ fine in
-    has.opens ∙ ap (λ r. (r >>= λ place. checked_table (table_in (order_of h.order) bytes has.ids)) >>= λ found. Ok (file_with bytes h (map (event_in (order_of h.order) bytes) (zip has.attributes has.ids)))) yes
+table_left : (order : Dynamic) (bytes : List ℕ) (whole : Result File OpenError) (ats : List perf_event_attr) (ss : List Section) (events : List FlatEvent) (has : Opens order bytes whole ats ss) → events ≡ map (flat_event order) (zip ats ss) → checked_places events ≡ Ok tt
+    → whole ≡ (checked_table (table_in (order_of order) bytes ss) >>= λ found. Ok (has.made (map (event_in (order_of order) bytes) (zip ats ss))))
+table_left order bytes whole ats ss events has is fine =
+    let yes : places.checked_places ats ≡ Ok tt = sym (places_are order ats ss has.many) ∙ ap checked_places (sym is) ∙ fine in
+    has.opens ∙ ap (λ r. (r >>= λ place. checked_table (table_in (order_of order) bytes ss)) >>= λ found. Ok (has.made (map (event_in (order_of order) bytes) (zip ats ss)))) yes
 
 -- an id of two events is refused
-pub table_refused : (bytes : List ℕ) (h : Head) (parts : List Section) (events : List FlatEvent) (ids : List IdOfEvent) (e : OpenError) → HasEvents bytes h parts → flat_events bytes h (drop 3 parts) ≡ Ok events → checked_places events ≡ Ok tt
-    → ids ≡ table_in (order_of h.order) bytes (drop 3 parts) → checked_table ids ≡ Err e → opened_file bytes ≡ Err e
-table_refused bytes h parts events ids e has is fine listed refused =
-    let t : table_in (order_of h.order) bytes has.ids ≡ ids = ap (λ ps. table_in (order_of h.order) bytes (drop 3 ps)) (sym has.parts_are) ∙ sym listed in
-    table_left bytes h parts events has is fine ∙ ap (λ xs. checked_table xs >>= λ found. Ok (file_with bytes h (map (event_in (order_of h.order) bytes) (zip has.attributes has.ids)))) t
-    ∙ ap (λ r. r >>= λ found. Ok (file_with bytes h (map (event_in (order_of h.order) bytes) (zip has.attributes has.ids)))) refused
+table_refused : (order : Dynamic) (bytes : List ℕ) (whole : Result File OpenError) (ats : List perf_event_attr) (ss : List Section) (events : List FlatEvent) (ids : List IdOfEvent) (e : OpenError) → Opens order bytes whole ats ss → events ≡ map (flat_event order) (zip ats ss) → checked_places events ≡ Ok tt
+    → ids ≡ table_in (order_of order) bytes ss → checked_table ids ≡ Err e → whole ≡ Err e
+table_refused order bytes whole ats ss events ids e has is fine listed refused =
+    table_left order bytes whole ats ss events has is fine ∙ ap (λ xs. checked_table xs >>= λ found. Ok (has.made (map (event_in (order_of order) bytes) (zip ats ss)))) (sym listed)
+    ∙ ap (λ r. r >>= λ found. Ok (has.made (map (event_in (order_of order) bytes) (zip ats ss)))) refused
 
 ids_zip : (o : Order) (bytes : List ℕ) (ats : List perf_event_attr) (ss : List Section) → length ats ≡ length ss → map (λ (e : FileEvent). e.ids) (map (event_in o bytes) (zip ats ss)) ≡ map (words_in o bytes) ss
 ids_zip o bytes [] [] same = refl
@@ -101,19 +143,20 @@ numbers_are o bytes [] = refl
 numbers_are o bytes (e ∷ es) = ap (λ xs. numbers_of o (event_in (order_of o) bytes e) ∷ xs) (numbers_are o bytes es)
 
 -- the events of the file are those that were written
-pub is_read : (bytes : List ℕ) (h : Head) (parts : List Section) (events : List FlatEvent) (ids sorted : List IdOfEvent) → HasEvents bytes h parts → flat_events bytes h (drop 3 parts) ≡ Ok events → checked_places events ≡ Ok tt
-    → ids ≡ table_in (order_of h.order) bytes (drop 3 parts) → checked_table ids ≡ Ok tt → IsPermutation ids sorted → IsNonDecreasingBy (λ (e : IdOfEvent). e.id) sorted → ((id : ℕ) → event_of sorted id ≡ event_of ids id)
-    → (f : File) × (opened_file bytes ≡ Ok f) × IsRead bytes f events sorted
-is_read bytes h parts events ids sorted has is fine listed one moved rises found =
-    let o = order_of h.order in
-    let f = file_with bytes h (map (event_in o bytes) (zip has.attributes has.ids)) in
-    let t : table_in o bytes has.ids ≡ ids = ap (λ ps. table_in o bytes (drop 3 ps)) (sym has.parts_are) ∙ sym listed in
-    let whole : opened_file bytes ≡ Ok f = table_left bytes h parts events has is fine ∙ ap (λ xs. checked_table xs >>= λ found. Ok f) t ∙ ap (λ r. r >>= λ found. Ok f) one in
-    let table : ids ≡ table_of f.events = sym t ∙ ap (λ xs. id_table 0 xs) (sym (ids_zip o bytes has.attributes has.ids has.many)) in (
+is_read : (order : Dynamic) (bytes : List ℕ) (whole : Result File OpenError) (ats : List perf_event_attr) (ss : List Section) (events : List FlatEvent) (ids sorted : List IdOfEvent) → Opens order bytes whole ats ss → events ≡ map (flat_event order) (zip ats ss) → checked_places events ≡ Ok tt
+    → ids ≡ table_in (order_of order) bytes ss → checked_table ids ≡ Ok tt → IsPermutation ids sorted → IsNonDecreasingBy (λ (e : IdOfEvent). e.id) sorted → ((id : ℕ) → event_of sorted id ≡ event_of ids id)
+    → (f : File) × (whole ≡ Ok f) × IsRead bytes f events sorted
+is_read order bytes whole ats ss events ids sorted has is fine listed one moved rises found =
+    let o = order_of order in
+    let es = map (event_in o bytes) (zip ats ss) in
+    let f = has.made es in
+    let there : whole ≡ Ok f = table_left order bytes whole ats ss events has is fine ∙ ap (λ xs. checked_table xs >>= λ found. Ok f) (sym listed) ∙ ap (λ r. r >>= λ found. Ok f) one in
+    let table : ids ≡ table_of f.events = listed ∙ ap (λ xs. id_table 0 xs) (sym (ids_zip o bytes ats ss has.many)) ∙ ap table_of (sym (has.events_are es)) in (
       f,
-      whole,
+      there,
       record {
-        all = ap (map (stated o bytes)) (event_list events has is) ∙ numbers_are h.order bytes (zip has.attributes has.ids);
+        all = ap (map (stated (order_of f.order) bytes)) is ∙ ap (λ (d : Dynamic). map (stated (order_of d) bytes) (map (flat_event order) (zip ats ss))) (has.order_is es) ∙ numbers_are order bytes (zip ats ss)
+            ∙ ap (λ (d : Dynamic). map (numbers_of d) es) (sym (has.order_is es)) ∙ ap (map (numbers_of f.order)) (sym (has.events_are es));
         same = subst (λ xs. IsPermutation xs sorted) table moved;
         table = record { sorted = rises; found = λ id. found id ∙ ap (λ xs. event_of xs id) table };
       },
@@ -147,8 +190,8 @@ all_after P (suc n) [] h = h
 all_after P (suc n) (x ∷ xs) h = all_after P n xs (λ k d lt. h (suc k) d (omega (arith, lt)))
 
 -- what comparing the ids returns is what opening the file does
-pub read_ends : (result : Result (Unit {0}) OpenError) (bytes : List ℕ) (h : Head) (parts : List Section) (events : List FlatEvent) (ids sorted : List IdOfEvent) → HasEvents bytes h parts → flat_events bytes h (drop 3 parts) ≡ Ok events → checked_places events ≡ Ok tt
-    → ids ≡ table_in (order_of h.order) bytes (drop 3 parts) → result ≡ checked_table ids → IsPermutation ids sorted → IsNonDecreasingBy (λ (e : IdOfEvent). e.id) sorted → OnOk result ((id : ℕ) → event_of sorted id ≡ event_of ids id)
-    → ReadsFile bytes (opened_file bytes) result events sorted
-read_ends (Ok done) bytes h parts events ids sorted has is fine listed table moved rises found = is_read bytes h parts events ids sorted has is fine listed (sym table) moved rises found
-read_ends (Err e) bytes h parts events ids sorted has is fine listed table moved rises found = table_refused bytes h parts events ids e has is fine listed (sym table)
+pub read_ends : (result : Result (Unit {0}) OpenError) (order : Dynamic) (bytes : List ℕ) (whole : Result File OpenError) (ats : List perf_event_attr) (ss : List Section) (events : List FlatEvent) (ids sorted : List IdOfEvent) → Opens order bytes whole ats ss → events ≡ map (flat_event order) (zip ats ss) → checked_places events ≡ Ok tt
+    → ids ≡ table_in (order_of order) bytes ss → result ≡ checked_table ids → IsPermutation ids sorted → IsNonDecreasingBy (λ (e : IdOfEvent). e.id) sorted → OnOk result ((id : ℕ) → event_of sorted id ≡ event_of ids id)
+    → ReadsFile bytes whole result events sorted
+read_ends (Ok done) order bytes whole ats ss events ids sorted has is fine listed table moved rises found = is_read order bytes whole ats ss events ids sorted has is fine listed (sym table) moved rises found
+read_ends (Err e) order bytes whole ats ss events ids sorted has is fine listed table moved rises found = table_refused order bytes whole ats ss events ids e has is fine listed (sym table)

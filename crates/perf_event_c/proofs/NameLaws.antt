@@ -1,5 +1,5 @@
 -- Names of events as places in a file, and as text in memory of the caller's.
-use Rattle.std.proofs.Common.{◌≡◌, ◌≢◌, ℕ, zero, suc, ◌+◌, ◌-◌, ◌*◌, ◌≤◌, ◌<◌, List, [], ◌∷◌, ◌++◌, Bool, true, false, cond, map, length, get_or, set, take, drop, min, Option, Some, None, Result, Ok, Err, OnOk, Contains, All, zip, refl, sym, ap, subst, ◌∙◌, nat_eq, nat_le, arith}
+use Rattle.std.proofs.Common.{◌≡◌, ◌≢◌, ℕ, zero, suc, ◌+◌, ◌-◌, ◌*◌, ◌≤◌, ◌<◌, List, [], ◌∷◌, ◌++◌, ◌&&◌, ◌||◌, ◌==◌, Bool, true, false, cond, map, length, get_or, set, take, drop, min, Option, Some, None, Result, Ok, Err, OnOk, Contains, All, zip, refl, sym, ap, subst, ◌∙◌, nat_eq, nat_le, nat_lt, arith}
 use Rattle.std.proofs.lemmas.Bool.{eq-eqb, eqb-true, le-leb, lt-leb}
 use Rattle.std.proofs.lemmas.List.{drop-drop, take-take, drop-take, length-take-le, length-drop, length-map, get_or-map}
 use Rattle.std.proofs.lemmas.List.Elements.{All-cons, All-head, All-tail}
@@ -7,21 +7,31 @@ use Rattle.perf_base.specs.Layout.{slice}
 use Rattle.perf_base.specs.Dynamic.{order_of}
 use Rattle.perf_base.specs.declared.endian.Dynamic.{Dynamic}
 use Rattle.perf_base.specs.declared.sys.perf_event_attr.{perf_event_attr}
+use Rattle.std.specs.Prelude.{if◌then◌else◌}
+use Rattle.std.specs.List.{filter}
+use Rattle.perf_base.specs.Order.{Order}
 use Rattle.perf_file.specs.Attributes.{attributes_in}
-use Rattle.perf_file.specs.Features.{part_in, descriptions_of, file_descriptions}
+use Rattle.perf_file.specs.Forms.{event_name, notes_of}
+use Rattle.perf_file.specs.IdTables.{is_event, event_of}
+use Rattle.perf_file.specs.Numbers.{number}
+use Rattle.perf_file.specs.Pipes.{FrameNote, pipe_order, all_frames, is_of, is_note, newer, has_name, new_name, named_by, named_event, last_name, noted_feature, noted_name}
+use Rattle.perf_file.specs.declared.ids.IdOfEvent.{IdOfEvent}
+use Rattle.perf_file.proofs.NewNames.{same_names}
+use Rattle.perf_file.proofs.NotePlacing.{noted_alike}
+use Rattle.perf_file.specs.Features.{part_in, or_nothing, descriptions_of, file_descriptions}
 use Rattle.perf_file.specs.Heads.{head_in, checked_features, checked_parts}
-use Rattle.perf_file.specs.Names.{Name, first_of, key_of, name_of, name_with}
-use Rattle.perf_file.specs.Opened.{File, FileEvent, opened_file, checked_head, events_in, checked_events, file_with}
+use Rattle.perf_file.specs.Names.{Name, described, described_or, name_by_numbers, first_of, key_of, name_of, name_with}
+use Rattle.perf_file.specs.Opened.{File, FileEvent, opened_file, checked_head, events_in, checked_events, file_with, table_of}
 use Rattle.perf_file.specs.Opens.{◌>>=◌}
 use Rattle.perf_file.specs.declared.head.Head.{Head}
 use Rattle.perf_file.proofs.NamePlacing.{first_word}
-use Rattle.perf_file.specs.NamePlaces.{first_id_at, name_at, unnamed, IsUnnamed}
+use Rattle.perf_file.specs.NamePlaces.{first_id_at, name_at, name_or, unnamed, IsUnnamed}
 use Rattle.perf_file.specs.declared.descriptions.EventKey.{EventKey}
 use Rattle.perf_file.specs.Sections.{IsInside}
 use Rattle.perf_file.specs.declared.section.Section.{Section}
-use Rattle.perf_event_c.specs.FileEvents.{flat_event, flat_events, stated, numbers_of, EventNumbers, HaveIds}
-use Rattle.perf_event_c.specs.FlatNames.{flat_key, described_by, nameless, over}
-use Rattle.perf_event_c.proofs.NextLaws.{States, bind_ok, of_head, config_is, no_event, no_flat}
+use Rattle.perf_event_c.specs.FileEvents.{flat_event, flat_events, stated, numbers_of, EventNumbers, IsRead, HaveIds}
+use Rattle.perf_event_c.specs.FlatNames.{flat_key, flat_name, described_by, nameless, AreNames, over}
+use Rattle.perf_event_c.proofs.NextLaws.{States, bind_ok, of_head, config_is, no_event, no_flat, same_count}
 use Rattle.perf_event_c.specs.declared.file_events.FlatEvent.{FlatEvent}
 
 -- ---- places
@@ -135,22 +145,91 @@ head_of_file bytes f whole =
       descriptions = own ∙ ap (descriptions_of bytes) same;
     }
 
--- the names by the descriptions are those of the file's events
-pub described_alike : (h : Head) (bytes : List ℕ) (all : List FlatEvent) (es : List FileEvent) → States h.order bytes all es → HaveIds bytes all → map (described_by h bytes) all ≡ map (name_of h.order (descriptions_of bytes h)) es
-described_alike h bytes [] [] is have = refl
-described_alike h bytes [] (x ∷ es) is have = absurd (no_event h.order bytes x es is)
-described_alike h bytes (e ∷ all) [] is have = absurd (no_flat h.order bytes e all is)
-described_alike h bytes (e ∷ all) (x ∷ es) is have =
+-- the names by descriptions are those of the file's events
+pub described_alike : (d : Dynamic) (ds bytes : List ℕ) (all : List FlatEvent) (es : List FileEvent) → States d bytes all es → HaveIds bytes all → map (described_by (order_of d) ds bytes) all ≡ map (name_of d ds) es
+described_alike d ds bytes [] [] is have = refl
+described_alike d ds bytes [] (x ∷ es) is have = absurd (no_event d bytes x es is)
+described_alike d ds bytes (e ∷ all) [] is have = absurd (no_flat d bytes e all is)
+described_alike d ds bytes (e ∷ all) (x ∷ es) is have =
     let P = λ (e : FlatEvent). e.ids_at + 8 * e.ids ≤ length bytes in
-    let o = order_of h.order in
-    let a : stated o bytes e ≡ numbers_of h.order x = cc in
+    let o = order_of d in
+    let a : stated o bytes e ≡ numbers_of d x = cc in
     let t : e.type_ ≡ x.attribute.type_ = ap (λ (n : EventNumbers). n.type_) a in
     let c : e.event ≡ x.attribute.config = ap (λ (n : EventNumbers). n.event) a in
     let id : first_id_at o bytes e.ids_at e.ids ≡ first_of x.ids = first_word o bytes e.ids_at e.ids (All-head P e all have) ∙ ap (λ (n : EventNumbers). first_of n.ids) a in
     let key : flat_key o bytes e ≡ key_of x = λ i. record { type_ = t i; config = c i; id = id i } in
-    let here : described_by h bytes e ≡ name_of h.order (descriptions_of bytes h) x = ap (name_with o (descriptions_of bytes h)) key in
-    ap (λ (n : Name). n ∷ map (described_by h bytes) all) here
-    ∙ ap (λ (ns : List Name). name_of h.order (descriptions_of bytes h) x ∷ ns) (described_alike h bytes all es (config_is h.order bytes e x all es is).1 (All-tail P e all have))
+    let here : described_by o ds bytes e ≡ name_of d ds x = ap (name_with o ds) key in
+    ap (λ (n : Name). n ∷ map (described_by o ds bytes) all) here
+    ∙ ap (λ (ns : List Name). name_of d ds x ∷ ns) (described_alike d ds bytes all es (config_is d bytes e x all es is).1 (All-tail P e all have))
+
+-- one name of two lists that are alike
+pub name_alike : {A B : Type 0} (f : A → Name) (g : B → Name) (xs : List A) (ys : List B) (n : ℕ) (x : A) (y : B) → map f xs ≡ map g ys → n < length ys → f (get_or xs n x) ≡ g (get_or ys n y)
+name_alike f g xs ys n x y same lt =
+    let few : n < length xs = omega (arith, lt, ap (λ (ns : List Name). length ns) same, length-map xs f, length-map ys g) in
+    sym (get_or-map f xs n x (f x) few) ∙ ap (λ (ns : List Name). get_or ns n (f x)) same ∙ get_or-map g ys n y (f x) lt
+
+-- ---- new names
+
+no_name : (o : Order) (n : FrameNote) → is_of 78 n ≡ false → has_name o n ≡ false
+no_name o n off = ap (λ v. cond (nat_lt (length n.body) 16) false (v && (number o n.body 0 == 2 && nat_lt 0 (length (new_name n))))) off ∙ go (nat_lt (length n.body) 16)
+  where
+    go : (b : Bool) → cond b false (false && (number o n.body 0 == 2 && nat_lt 0 (length (new_name n)))) ≡ false
+    go true = refl
+    go false = refl
+
+is_no_note : (n : FrameNote) (a b : Bool) → is_of 64 n ≡ a → is_of 67 n ≡ b → is_of 78 n ≡ true → is_note n ≡ false → ⊥
+is_no_note n a b x y on off =
+    let made : is_note n ≡ (a || (b || (true || is_of 80 n))) = ap (λ v. v || (is_of 67 n || (is_of 78 n || is_of 80 n))) x ∙ ap (λ v. a || (v || (is_of 78 n || is_of 80 n))) y ∙ ap (λ v. a || (b || (v || is_of 80 n))) on in
+    let yes : is_note n ≡ true = made ∙ all a b in absurd (cc)
+  where
+    all : (a b : Bool) → (a || (b || (true || is_of 80 n))) ≡ true
+    all true b = refl
+    all false true = refl
+    all false false = refl
+
+-- an event at the place of a name has that name
+pub named_at : (bytes text : List ℕ) (s : Section) (type config : ℕ) → name_at bytes s ≡ Some text → 0 < length text → name_or bytes s type config ≡ described text
+named_at bytes [] s type config is some = absurd (omega (arith, some))
+named_at bytes (x ∷ text) s type config is some = ap (λ n. described_or n (name_by_numbers type config)) is
+
+-- frames that are no notes give no names
+pub named_alike : (o : Order) (t : List IdOfEvent) (k : ℕ) (ns : List FrameNote) → last_name o t k (filter is_note ns) ≡ last_name o t k ns
+named_alike o t k [] = refl
+named_alike o t k (n ∷ ns) = go (named_alike o t k ns) (is_note n) refl (is_of 78 n) refl
+  where
+    older : (a : Option (List ℕ)) → newer a None ≡ a
+    older (Some x) = refl
+    older None = refl
+    nameless_note : is_of 78 n ≡ false → (if is_event (named_event o t n) k then Some (new_name n) else None) ≡ None
+    nameless_note off = ap (λ (has : Bool). if is_event (if has then event_of t (number o n.body 8) else None) k then Some (new_name n) else None) (no_name o n off)
+    go : last_name o t k (filter is_note ns) ≡ last_name o t k ns → (b : Bool) → is_note n ≡ b → (c : Bool) → is_of 78 n ≡ c → last_name o t k (filter is_note (n ∷ ns)) ≡ last_name o t k (n ∷ ns)
+    go rest true is c on =
+        let here : filter is_note (n ∷ ns) ≡ n ∷ filter is_note ns = ap (λ x. cond x (n ∷ filter is_note ns) (filter is_note ns)) is in
+        ap (last_name o t k) here ∙ ap (λ r. newer r (if is_event (named_event o t n) k then Some (new_name n) else None)) rest
+    go rest false is false off =
+        let here : filter is_note (n ∷ ns) ≡ filter is_note ns = ap (λ x. cond x (n ∷ filter is_note ns) (filter is_note ns)) is in
+        ap (last_name o t k) here ∙ rest
+        ∙ sym (ap (newer (last_name o t k ns)) (nameless_note off) ∙ older (last_name o t k ns))
+    go rest false is true on = absurd (is_no_note n (is_of 64 n) (is_of 67 n) refl refl on is)
+
+-- the names of a pipe's events
+pub noted_is : (bytes : List ℕ) (f : File) (order : Dynamic) (all now : List FlatEvent) (ids : List IdOfEvent) → pipe_order bytes ≡ Some order → f.order ≡ order → IsRead bytes f all ids → HaveIds bytes all
+    → ((k : ℕ) (d : FlatEvent) → k < length all → flat_name bytes (get_or now k d) ≡ named_by (last_name (order_of order) ids k (all_frames order (drop 16 bytes))) (described_by (order_of order) (or_nothing (noted_feature (order_of order) 12 (all_frames order (drop 16 bytes)))) bytes (get_or all k d)))
+    → AreNames bytes f now
+noted_is bytes f order all now ids piped is read have named n e x lt =
+    let o = order_of order in
+    let frames = all_frames order (drop 16 bytes) in
+    let ds = or_nothing (noted_feature o 12 (filter is_note frames)) in
+    let states : States order bytes all f.events = subst (λ d. States d bytes all f.events) is read.all in
+    let few : n < length all = omega (arith, lt, same_count order bytes all f.events states) in
+    let same : or_nothing (noted_feature o 12 frames) ≡ ds = ap or_nothing (sym (noted_alike o 12 frames)) in
+    let key : described_by o ds bytes (get_or all n e) ≡ name_of order ds (get_or f.events n x) = name_alike (described_by o ds bytes) (name_of order ds) all f.events n e x (described_alike order ds bytes all f.events states have) lt in
+    let made : event_name bytes f n (get_or f.events n x) ≡ noted_name order (filter is_note frames) (table_of f.events) n (get_or f.events n x) = rw (event_name, notes_of, piped) refl in
+    named n e few
+    ∙ ap (λ b. named_by (last_name o ids n frames) (described_by o b bytes (get_or all n e))) same
+    ∙ ap (λ m. named_by (last_name o ids n frames) m) key
+    ∙ ap (λ l. named_by l (name_of order ds (get_or f.events n x))) (sym (named_alike o ids n frames) ∙ same_names o ids (table_of f.events) n (filter is_note frames) read.table.found)
+    ∙ sym made
 
 -- ---- text
 

@@ -1,7 +1,8 @@
 -- The entry of a frame, by what the calls before have written.
-use Rattle.std.proofs.Common.{◌≡◌, ℕ, zero, suc, ◌+◌, ◌-◌, ◌≤◌, ◌<◌, List, [], ◌∷◌, map, length, get_or, Option, Some, None, Bool, true, false, not, nat_lt, nat_le, Result, Ok, Err, refl, sym, ap, subst, ◌∙◌, arith}
+use Rattle.std.proofs.Common.{◌≡◌, ℕ, zero, suc, ◌+◌, ◌-◌, ◌≤◌, ◌<◌, List, [], ◌∷◌, map, length, take, drop, get_or, Option, Some, None, Bool, true, false, not, nat_lt, nat_le, Result, Ok, Err, refl, sym, ap, subst, ◌∙◌, arith}
 use Rattle.std.specs.Prelude.{option_map, if◌then◌else◌}
-use Rattle.std.proofs.lemmas.Bool.{le-ltb}
+use Rattle.std.proofs.lemmas.Bool.{le-ltb, le-leb}
+use Rattle.std.proofs.lemmas.List.{length-drop, take_all}
 use Rattle.perf_base.specs.Configuration.{configured_by}
 use Rattle.perf_base.specs.Dynamic.{order_of}
 use Rattle.perf_base.specs.Layout.{slice}
@@ -9,6 +10,7 @@ use Rattle.perf_base.specs.declared.endian.Dynamic.{Dynamic}
 use Rattle.perf_base.specs.declared.endian.Dynamic.TheVariants.{Big, Little}
 use Rattle.perf_base.specs.declared.sys.perf_event_attr.{perf_event_attr}
 use Rattle.perf_file.specs.Entries as file_entries
+use Rattle.perf_file.specs.Forms.{opened}
 use Rattle.perf_file.specs.Heads.{head_in, checked_features, checked_parts}
 use Rattle.perf_file.specs.IdPlaces as places
 use Rattle.perf_file.specs.Opened.{File, FileEvent, opened_file, checked_head, events_in, checked_events, file_with, attributes_of}
@@ -16,12 +18,15 @@ use Rattle.perf_file.specs.Opens.{◌>>=◌}
 use Rattle.perf_file.specs.Outlines.{outline, outline_with, checked_attributes, counted_ids}
 use Rattle.perf_file.specs.Owners as owners
 use Rattle.perf_file.specs.Pieces.{place_in, after_piece}
+use Rattle.perf_file.specs.PipeOutlines.{pipe_outline, pipe_head, form_outline}
+use Rattle.perf_file.specs.Pipes.{pipe_order, opened_pipe}
 use Rattle.perf_file.specs.Sections.{is_inside}
 use Rattle.perf_file.specs.declared.error.OpenError.{OpenError}
 use Rattle.perf_file.specs.declared.head.Head.{Head}
 use Rattle.perf_file.specs.declared.owning.Owner.{Owner}
 use Rattle.perf_file.specs.declared.owning.Owner.TheVariants as owner
 use Rattle.perf_file.specs.declared.summary.Outline.{Outline}
+use Rattle.perf_file.proofs.PipeInMemory.{pipe_long, outline_head, pipe_is, form_some, form_none}
 use Rattle.perf_flat.specs.FlatConfigs.{flat_config_of, is_valid, order_code, order_by}
 use Rattle.perf_flat.specs.declared.config.FlatConfig.{FlatConfig}
 use Rattle.perf_records.specs.Sights.{Sight, sight_in}
@@ -71,9 +76,9 @@ of_head bytes h f is made =
       inside = subst (λ (k : Head). is_inside bytes k.frames ≡ true) same (good_frames bytes d.0 j.0 j.1);
     }
 
-pub is_placed : (bytes : List ℕ) (o : Outline) (f : File) → outline bytes ≡ Ok o → opened_file bytes ≡ Ok f → IsPlaced bytes o.head f
+file_placed : (bytes : List ℕ) (o : Outline) (f : File) → outline bytes ≡ Ok o → opened_file bytes ≡ Ok f → IsPlaced bytes o.head f
 unfolding opened_file
-is_placed bytes o f sketched whole =
+file_placed bytes o f sketched whole =
     let a = bind_ok (checked_head bytes) (λ h. checked_attributes bytes h >>= λ done. counted_ids bytes h >>= λ n. Ok (outline_with h n)) o sketched in
     let b = bind_ok (checked_attributes bytes a.0) (λ done. counted_ids bytes a.0 >>= λ n. Ok (outline_with a.0 n)) o a.2 in
     let c = bind_ok (counted_ids bytes a.0) (λ n. Ok (outline_with a.0 n)) o b.2 in
@@ -82,6 +87,29 @@ is_placed bytes o f sketched whole =
     let both : ◌≡◌ {A = Result Head OpenError} (Ok g.0) (Ok a.0) = sym g.1 ∙ a.1 in
     let one : g.0 ≡ a.0 = cc in
     subst (λ (h : Head). IsPlaced bytes h f) (one ∙ head) (of_head bytes g.0 f g.1 g.2)
+
+-- the frames of a pipe are all bytes after its head
+pipe_placed : (order : Dynamic) (bytes : List ℕ) (o : Outline) (f : File) → 16 ≤ length bytes → pipe_outline order bytes ≡ Ok o → opened_pipe order bytes ≡ Ok f → IsPlaced bytes o.head f
+pipe_placed order bytes o f long sketched whole =
+    let head : o.head ≡ pipe_head order bytes = outline_head order bytes o sketched in
+    let made = pipe_is order bytes f whole in
+    let n = length-drop 16 bytes in
+    let all : take (length bytes - 16) (drop 16 bytes) ≡ drop 16 bytes = take_all (length bytes - 16) (drop 16 bytes) (omega (arith, n)) in
+    let ends : 16 + (length bytes - 16) ≤ length bytes = omega (arith, long) in
+    subst (λ (h : Head). IsPlaced bytes h f) (sym head) (record {
+      order = ap (λ (x : File). x.order) made.1;
+      start = ap (λ (x : File). x.start) made.1;
+      frames = ap (λ (x : File). x.frames) made.1 ∙ sym all;
+      inside = le-leb (16 + (length bytes - 16)) (length bytes) ends;
+    })
+
+-- what is known of a file in either form
+pub is_placed : (bytes : List ℕ) (o : Outline) (f : File) → form_outline bytes ≡ Ok o → opened bytes ≡ Ok f → IsPlaced bytes o.head f
+is_placed bytes o f sketched whole = go (pipe_order bytes) refl
+  where
+    go : (p : Option Dynamic) → pipe_order bytes ≡ p → IsPlaced bytes o.head f
+    go (Some order) is = let form = form_some bytes order is in pipe_placed order bytes o f (pipe_long bytes order is) (sym form.0 ∙ sketched) (sym form.1 ∙ whole)
+    go None is = let form = form_none bytes is in file_placed bytes o f (sym form.0 ∙ sketched) (sym form.1 ∙ whole)
 
 -- ---- its events
 

@@ -12,6 +12,8 @@ use Rattle.perf_file.specs.Finders.{IsTableOf}
 use Rattle.perf_file.specs.IdPlaces.{id_place, is_same_place}
 use Rattle.perf_file.specs.Opened.{File, FileEvent, table_of}
 use Rattle.perf_file.specs.Opens.{◌>>=◌}
+use Rattle.perf_file.specs.PipeOutlines.{from_notes}
+use Rattle.perf_file.specs.Pipes.{FrameNote, noted_attribute}
 use Rattle.perf_file.specs.declared.error.OpenError.{OpenError}
 use Rattle.perf_file.specs.declared.error.OpenError.TheVariants as errors
 use Rattle.perf_file.specs.declared.head.Head.{Head}
@@ -39,6 +41,10 @@ flat_event o e = record {
 -- those of a file, of which the ids are in these sections
 abbrev pub flat_events : List ℕ → Head → List Section → Result (List FlatEvent) OpenError
 flat_events bytes h sections = attributes_in bytes h >>= λ attributes. Ok (map (flat_event h.order) (zip attributes sections))
+
+-- those of a pipe with these frames, of which the ids of events are in these sections
+abbrev pub note_events : Dynamic → List FrameNote → List Section → Result (List FlatEvent) OpenError
+note_events order all sections = from_notes (noted_attribute order) 0 all (λ attributes. Ok (map (flat_event order) (zip attributes sections)))
 
 -- where the frames of an event have its id, if its configuration is of this version
 abbrev pub place_by : FlatEvent → Option IdPlace

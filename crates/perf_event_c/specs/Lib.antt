@@ -4,4 +4,5 @@ pub mod Files
 pub mod Entries
 pub mod FileEvents
 pub mod FlatNames
+pub mod FileFeatures
 pub mod EntryReads

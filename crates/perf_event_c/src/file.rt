@@ -1,14 +1,15 @@
-//! A `perf.data` file, before its events are read.
+//! A file of `perf record`, before its events are read.
 
 ghost use Rattle.std.specs.Prelude.{◌≡◌, ◌≢◌, Err};
-ghost use Rattle.perf_file.specs.Opened.{opened_file};
-ghost use Rattle.perf_file.specs.Outlines.{outline};
+ghost use Rattle.perf_file.specs.Forms.{opened};
+ghost use Rattle.perf_file.specs.PipeOutlines.{form_outline};
 ghost use Rattle.perf_file.specs.declared.error.OpenError.{OpenError};
 ghost use Rattle.perf_event_c.specs.Files as files;
 
 use perf_base::ErrorKind;
+use perf_file::pipe_outline::outline_of_form;
 use perf_file::section::Section;
-use perf_file::summary::{Outline, outline_of};
+use perf_file::summary::Outline;
 use perf_file::{OpenError, Part};
 use perf_flat::config::order_code;
 use std::alloc::Global;
@@ -87,18 +88,19 @@ fn flat_file(outline: Outline) -> FlatFile
 }
 
 /// Writes to `file` where the frames of a file are, and how many events and ids it has, and returns
-/// 0. What follows an event is checked by [`ped_file_events`].
+/// 0: of what `perf record` writes into a file or to a pipe. What is between events is checked by
+/// [`ped_file_events`].
 ///
 /// If the file is refused before that, it returns the number of the refusal, and nothing is written.
 ///
 /// [`ped_file_events`]: crate::file_events::ped_file_events
 #[unsafe(no_mangle)]
 pub extern "C" fn ped_file_open(alloc: Global, bytes: &[u8], file: &mut FlatFile) -> u32
-    ensures opened { files.OpensFile (outline bytes.now) result file.old file.new }
-    ensures refused { result ≢ 0 → (e : OpenError) × (opened_file bytes.now ≡ Err e)
+    ensures opened { files.OpensFile (form_outline bytes.now) result file.old file.new }
+    ensures refused { result ≢ 0 → (e : OpenError) × (opened bytes.now ≡ Err e)
         × (result ≡ files.open_code e) }
 {
-    match outline_of(alloc, bytes) {
+    match outline_of_form(alloc, bytes) {
         Ok(outline) => {
             *file = flat_file(outline);
             0

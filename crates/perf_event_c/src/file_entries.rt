@@ -1,8 +1,9 @@
 //! Frames of a file, by their offsets and times.
 
 ghost use Rattle.std.specs.Prelude.{◌≡◌, ◌-◌, ◌<◌, ◌≤◌, Ok, Some, MatchOption, option_map, slice_index_or, drop, length};
-ghost use Rattle.perf_file.specs.Opened.{File, opened_file};
-ghost use Rattle.perf_file.specs.Outlines.{outline};
+ghost use Rattle.perf_file.specs.Forms.{opened};
+ghost use Rattle.perf_file.specs.Opened.{File};
+ghost use Rattle.perf_file.specs.PipeOutlines.{form_outline};
 ghost use Rattle.perf_file.specs.declared.summary.Outline.{Outline};
 ghost use Rattle.perf_records.specs.Sights.{sight_of};
 ghost use Rattle.perf_event_c.specs.Entries as entries;
@@ -160,7 +161,7 @@ pub extern "C" fn ped_file_next(
     at: &mut u64,
     entry: &mut FlatEntry,
 ) -> u32
-    ensures { (o : Outline) (f : File) → outline bytes.now ≡ Ok o → opened_file bytes.now ≡ Ok f →
+    ensures { (o : Outline) (f : File) → form_outline bytes.now ≡ Ok o → opened bytes.now ≡ Ok f →
         file.now ≡ flat_file o → IsRead bytes.now f all.now ids.now →
         entries.ReadsNext f at.old result at.new entry.old entry.new }
 {

@@ -1,11 +1,16 @@
-//! The events of a `perf.data` file.
+//! The events of a file of `perf record`.
 
-ghost use Rattle.std.specs.Prelude.{◌≡◌, ◌+◌, ◌≤◌, Ok, Err, OnOk, true, false, length};
+ghost use Rattle.std.specs.Prelude.{◌≡◌, ◌+◌, ◌≤◌, ◌<◌, ◌^◌, ◌++◌, ◌∷◌, [], List, Ok, Err, IfOk, OnOk, true, false, length, map, take, drop};
+ghost use Rattle.std.specs.List.{filter, zip};
 ghost use Rattle.perf_file.specs.Filled.{Fills};
+ghost use Rattle.perf_file.specs.Forms.{opened};
 ghost use Rattle.perf_file.specs.Heads.{IsGoodHead};
 ghost use Rattle.perf_file.specs.IdSections.{entry_count};
+ghost use Rattle.perf_file.specs.NoteViews.{note_of};
 ghost use Rattle.perf_file.specs.Opened.{File, opened_file, checked_head};
 ghost use Rattle.perf_file.specs.Outlines as outlines;
+ghost use Rattle.perf_file.specs.PipeOutlines.{from_notes, going_on, pipe_outline, form_outline};
+ghost use Rattle.perf_file.specs.Pipes.{FrameNote, is_of, all_frames, noted_attribute, opened_pipe};
 ghost use Rattle.perf_file.specs.declared.error.OpenError.{OpenError};
 ghost use Rattle.perf_file.specs.declared.summary.Outline.{Outline};
 ghost use Rattle.perf_event_c.specs.FileEvents as events;
@@ -20,7 +25,11 @@ use perf_file::head::Head;
 use perf_file::id_list::{check_ids, fill_ids};
 use perf_file::id_place::{IdPlace, id_place, is_same_place};
 use perf_file::ids::IdOfEvent;
+use perf_file::note_frames::Note;
+use perf_file::noting::HEADER_ATTR;
 use perf_file::parts::read_parts;
+use perf_file::pipe_outline::{fill_sections, frames_of, outline_of_pipe};
+use perf_file::piped::{noted_attribute, pipe_order};
 use perf_file::section::Section;
 use perf_file::summary::{Outline, outline_of};
 use perf_flat::config::FlatConfig;
@@ -158,15 +167,8 @@ fn has_room(outline: Outline, all: usize, parts: usize, ids: usize) -> bool
     all as u64 == outline.events && parts >= 3 && parts - 3 == all && ids as u64 == outline.ids
 }
 
-/// Writes the events of a file to `all`, its ids by rising numbers to `ids`, and its parts to
-/// `parts`, and returns 0. `all` and `ids` have as many elements as [`ped_file_open`] stated, and
-/// `parts` three more than `all`; else it returns [`OTHER_COUNT`], and nothing is written.
-///
-/// If the file is refused, it returns the number of the refusal.
-///
-/// [`ped_file_open`]: crate::file::ped_file_open
-#[unsafe(no_mangle)]
-pub extern "C" fn ped_file_events(
+// Writes the events of a file that is no pipe, as `ped_file_events` does.
+fn read_file(
     alloc: Global,
     bytes: &[u8],
     all: &mut [FlatEvent],
@@ -197,5 +199,151 @@ pub extern "C" fn ped_file_events(
     match read_events(alloc, bytes, outline.head, all, parts, ids) {
         Ok(()) => 0,
         Err(refusal) => open_code(refusal),
+    }
+}
+
+// Writes the event of a note, if it is that of an attribute, and returns how many events there are with
+// it, after so many.
+fn put_event(
+    alloc: Global,
+    order: Dynamic,
+    index: usize,
+    note: &Note<'_>,
+    sections: &[Section],
+    all: &mut [FlatEvent],
+) -> Result<usize, OpenError>
+    requires room { index + length (filter (is_of 64) (note_of note.now ∷ [])) ≤ length all.old }
+    requires sections { length all.old ≡ length sections.now }
+    ensures read { (rest : List FrameNote) →
+        from_notes (noted_attribute order) index (note_of note.now ∷ rest) (λ ats.
+        Ok (take index all.old ++ map (events.flat_event order) (zip ats (drop index sections.now))))
+        ≡ going_on result (λ n. from_notes (noted_attribute order) n rest (λ ats.
+        Ok (take n all.new ++ map (events.flat_event order) (zip ats (drop n sections.now))))) }
+    ensures more { IfOk result (λ n.
+        n ≡ index + length (filter (is_of 64) (note_of note.now ∷ []))) }
+{
+    if note.header.type_ != HEADER_ATTR {
+        return Ok(index);
+    }
+    let attr = noted_attribute(alloc, order, index, note)?;
+    all[index] = flat_event(&attr, order, sections[index]);
+    Ok(index + 1)
+}
+
+// Writes the numbers of all events of a pipe, of which the ids are in these sections.
+fn fill_note_events(
+    alloc: Global,
+    order: Dynamic,
+    frames: &[u8],
+    sections: &[Section],
+    all: &mut [FlatEvent],
+) -> Result<(), OpenError>
+    requires few { 16 + length frames.now < 2 ^ 64 }
+    requires room { length all.old ≡ length (filter (is_of 64) (all_frames order frames.now)) }
+    requires sections { length all.old ≡ length sections.now }
+    ensures { Fills result (events.note_events order (all_frames order frames.now) sections.now)
+        all.new }
+{
+    let mut index = 0;
+    for note in frames_of(order, frames) {
+        index = put_event(alloc, order, index, &note, sections, all)?;
+    }
+    Ok(())
+}
+
+// Writes the events, the parts and the ids of a pipe whose attributes were checked.
+fn read_note_events(
+    alloc: Global,
+    order: Dynamic,
+    bytes: &[u8],
+    all: &mut [FlatEvent],
+    parts: &mut [Section],
+    ids: &mut [IdOfEvent],
+) -> Result<(), OpenError>
+    requires long { 16 ≤ length bytes.now }
+    requires outline { (o : Outline) × (pipe_outline order bytes.now ≡ Ok o)
+        × (length all.old ≡ o.events) × (length ids.old ≡ o.ids) }
+    requires parts_room { length parts.old ≡ length all.old + 3 }
+    ensures file { events.ReadsFile bytes.now (opened_pipe order bytes.now) result all.new ids.new }
+    ensures inside { OnOk result (events.HaveIds bytes.now all.new) }
+{
+    let frames = bytes.split_at(16).1;
+    let sections = parts.split_at_mut(3).1;
+    fill_sections(order, bytes, frames, sections)?;
+    fill_note_events(alloc, order, frames, sections, all)?;
+    check_places(all)?;
+    fill_ids(order, bytes, sections, ids);
+    check_ids(ids)
+}
+
+// Writes the events of a pipe in that order, as `ped_file_events` does.
+fn read_pipe(
+    alloc: Global,
+    order: Dynamic,
+    bytes: &[u8],
+    all: &mut [FlatEvent],
+    parts: &mut [Section],
+    ids: &mut [IdOfEvent],
+) -> u32
+    requires { 16 ≤ length bytes.now }
+    ensures opened { (o : Outline) → pipe_outline order bytes.now ≡ Ok o →
+        events.has_room o (length all.old) (length parts.old) (length ids.old) ≡ true →
+        events.ReadsEvents bytes.now (opened_pipe order bytes.now) result all.new ids.new }
+    ensures inside { (o : Outline) (f : File) → pipe_outline order bytes.now ≡ Ok o →
+        events.has_room o (length all.old) (length parts.old) (length ids.old) ≡ true →
+        opened_pipe order bytes.now ≡ Ok f → events.HaveIds bytes.now all.new }
+    ensures other { (o : Outline) → pipe_outline order bytes.now ≡ Ok o →
+        events.has_room o (length all.old) (length parts.old) (length ids.old) ≡ false →
+        (result ≡ OTHER_COUNT) × (all.new ≡ all.old) × (parts.new ≡ parts.old)
+        × (ids.new ≡ ids.old) }
+    ensures refused { (e : OpenError) → pipe_outline order bytes.now ≡ Err e →
+        (opened_pipe order bytes.now ≡ Err e) × (result ≡ open_code e) × (all.new ≡ all.old)
+        × (parts.new ≡ parts.old) × (ids.new ≡ ids.old) }
+{
+    let outline = match outline_of_pipe(alloc, order, bytes) {
+        Ok(outline) => outline,
+        Err(refusal) => return open_code(refusal),
+    };
+    if !has_room(outline, all.len(), parts.len(), ids.len()) {
+        return OTHER_COUNT;
+    }
+    match read_note_events(alloc, order, bytes, all, parts, ids) {
+        Ok(()) => 0,
+        Err(refusal) => open_code(refusal),
+    }
+}
+
+/// Writes the events of a file to `all`, its ids by rising numbers to `ids`, and its parts to
+/// `parts`, and returns 0. `all` and `ids` have as many elements as [`ped_file_open`] stated, and
+/// `parts` three more than `all`; else it returns [`OTHER_COUNT`], and nothing is written.
+///
+/// If the file is refused, it returns the number of the refusal.
+///
+/// [`ped_file_open`]: crate::file::ped_file_open
+#[unsafe(no_mangle)]
+pub extern "C" fn ped_file_events(
+    alloc: Global,
+    bytes: &[u8],
+    all: &mut [FlatEvent],
+    parts: &mut [Section],
+    ids: &mut [IdOfEvent],
+) -> u32
+    ensures opened { (o : Outline) → form_outline bytes.now ≡ Ok o →
+        events.has_room o (length all.old) (length parts.old) (length ids.old) ≡ true →
+        events.ReadsEvents bytes.now (opened bytes.now) result all.new ids.new }
+    ensures inside { (o : Outline) (f : File) → form_outline bytes.now ≡ Ok o →
+        events.has_room o (length all.old) (length parts.old) (length ids.old) ≡ true →
+        opened bytes.now ≡ Ok f → events.HaveIds bytes.now all.new }
+    ensures other { (o : Outline) → form_outline bytes.now ≡ Ok o →
+        events.has_room o (length all.old) (length parts.old) (length ids.old) ≡ false →
+        (result ≡ OTHER_COUNT) × (all.new ≡ all.old) × (parts.new ≡ parts.old)
+        × (ids.new ≡ ids.old) }
+    ensures refused { (e : OpenError) → form_outline bytes.now ≡ Err e →
+        (opened bytes.now ≡ Err e) × (result ≡ open_code e) × (all.new ≡ all.old)
+        × (parts.new ≡ parts.old) × (ids.new ≡ ids.old) }
+{
+    match pipe_order(bytes) {
+        Some(order) => read_pipe(alloc, order, bytes, all, parts, ids),
+        None => read_file(alloc, bytes, all, parts, ids),
     }
 }

@@ -1,14 +1,20 @@
 //! The names of a file's events.
 
-ghost use Rattle.std.specs.Prelude.{◌≡◌, ◌≢◌, ◌<◌, ◌^◌, ◌+◌, ℕ, List, Ok, Err, map, length, slice_index_or};
+ghost use Rattle.std.specs.Prelude.{◌≡◌, ◌≢◌, ◌<◌, ◌≤◌, ◌^◌, ◌+◌, ◌∷◌, ℕ, List, Ok, Err, Some, None, map, length, drop, slice_index_or};
+ghost use Rattle.std.specs.List.Sorted.{IsNonDecreasingBy};
 ghost use Rattle.perf_base.specs.Dynamic.{order_of};
 ghost use Rattle.perf_base.specs.Layout.{slice};
 ghost use Rattle.perf_file.specs.Descriptions.{first_name, descriptions_in};
-ghost use Rattle.perf_file.specs.Features.{descriptions_of, file_descriptions};
+ghost use Rattle.perf_file.specs.Features.{descriptions_of, or_nothing};
+ghost use Rattle.perf_file.specs.Forms.{opened};
 ghost use Rattle.perf_file.specs.Heads.{IsGoodHead};
 ghost use Rattle.perf_file.specs.NamePlaces as places;
-ghost use Rattle.perf_file.specs.Names.{name_of};
-ghost use Rattle.perf_file.specs.Opened.{File, opened_file, checked_head};
+ghost use Rattle.perf_file.specs.Names.{described};
+ghost use Rattle.perf_file.specs.NotePlaces.{IsPlaced, bytes_of};
+ghost use Rattle.perf_file.specs.NoteViews.{note_of};
+ghost use Rattle.perf_file.specs.Opened.{File, checked_head};
+ghost use Rattle.perf_file.specs.Pipes as pipes;
+ghost use Rattle.perf_file.specs.Pipes.{FrameNote};
 ghost use Rattle.perf_file.specs.Sections.{IsInside};
 ghost use Rattle.perf_file.specs.declared.error.OpenError.{OpenError};
 ghost use Rattle.perf_file.specs.declared.head.Head.{Head};
@@ -23,10 +29,15 @@ use crate::file_events::{FlatEvent, OTHER_COUNT};
 use perf_base::endian::Dynamic;
 use perf_file::descriptions::EventKey;
 use perf_file::event_list::checked_head;
+use perf_file::feature_places::noted_section;
 use perf_file::features::description_section;
-use perf_file::head::Head;
+use perf_file::ids::IdOfEvent;
 use perf_file::name_places::{NamePlace, find_names, key_at, place_of, unnamed};
+use perf_file::new_names::new_name_in;
+use perf_file::note_frames::Note;
 use perf_file::number::bytes_at;
+use perf_file::pipe_outline::frames_of;
+use perf_file::piped::pipe_order;
 use perf_file::section::Section;
 
 // By what an event is found among descriptions; its ids are in these bytes.
@@ -104,63 +115,175 @@ fn name_of(
 
 // Writes to each event where its name is.
 fn put_names(
+    order: Dynamic,
     bytes: &[u8],
-    head: Head,
     descriptions: Section,
     found: &[NamePlace],
     all: &mut [FlatEvent],
 )
     requires inside { IsInside bytes.now descriptions }
-    requires value { slice bytes.now descriptions.start descriptions.size ≡
-        descriptions_of bytes.now head }
     requires sorted { places.Rises found.now }
     requires named { places.AreNamed (slice bytes.now descriptions.start descriptions.size) found.now
-        (λ key. first_name key (descriptions_in (order_of head.order)
+        (λ key. first_name key (descriptions_in (order_of order)
         (slice bytes.now descriptions.start descriptions.size))) }
     requires kept { (index : ℕ) (e : FlatEvent) → index < length all.old → places.HasRank found.now
-        (places.rank_of (names.flat_key (order_of head.order) bytes.now
+        (places.rank_of (names.flat_key (order_of order) bytes.now
         (slice_index_or all.old index e))) }
-    ensures { names.FindsNames head bytes.now all.old all.new }
+    ensures { names.FindsNames (order_of order) (bytes_of bytes.now descriptions) bytes.now
+        all.old all.new }
 {
     for index in 0..all.len() {
-        let name = name_of(head.order, bytes, descriptions, found, &all[index]);
+        let name = name_of(order, bytes, descriptions, found, &all[index]);
         all[index].name = name;
     }
 }
 
-// Finds the names of events, by the descriptions of a file with that head.
-fn find_all(bytes: &[u8], head: Head, all: &mut [FlatEvent], found: &mut [NamePlace])
-    requires good { IsGoodHead bytes.now head }
+// Finds the names of events, by the descriptions in a part of the file.
+fn find_all(
+    order: Dynamic,
+    bytes: &[u8],
+    section: Section,
+    all: &mut [FlatEvent],
+    found: &mut [NamePlace],
+)
+    requires inside { IsInside bytes.now section }
     requires room { length found.old ≡ length all.old }
-    ensures { names.FindsNames head bytes.now all.old all.new }
+    ensures { names.FindsNames (order_of order) (bytes_of bytes.now section) bytes.now
+        all.old all.new }
 {
-    let section = description_section(bytes, head);
     let descriptions = bytes_at(bytes, section.start as usize, section.size as usize);
-    fill_keys(head.order, bytes, all, found);
-    find_names(head.order, descriptions, found);
-    put_names(bytes, head, section, found, all);
+    fill_keys(order, bytes, all, found);
+    find_names(order, descriptions, found);
+    put_names(order, bytes, section, found, all);
 }
 
-/// Finds the names of a file's events in its descriptions, writes to each event where its name is, and
-/// returns 0. `found` is room for this, of as many elements as there are events: with another count it
-/// returns [`OTHER_COUNT`], and nothing is written. If the head of the file is refused, it returns the
-/// number of the refusal, and nothing is written.
+// Gives the event with that number the name at a place.
+fn rename_at(all: &mut [FlatEvent], index: usize, name: Section)
+    requires { index < length all.old }
+    ensures same { map names.nameless all.new ≡ map names.nameless all.old }
+    ensures there { (bytes text : List ℕ) (d : FlatEvent) → places.name_at bytes name ≡ Some text →
+        0 < length text → names.flat_name bytes (slice_index_or all.new index d) ≡ described text }
+    ensures others { (k : ℕ) (d : FlatEvent) → k ≢ index →
+        slice_index_or all.new k d ≡ slice_index_or all.old k d }
+{
+    all[index].name = name;
+}
+
+// Gives the event that a note names, if there is one, its new name.
+fn rename_by(order: Dynamic, ids: &[IdOfEvent], note: &Note<'_>, all: &mut [FlatEvent])
+    ensures same { map names.nameless all.new ≡ map names.nameless all.old }
+    ensures named { IsNonDecreasingBy (λ (e : IdOfEvent). e.id) ids.now → (bytes : List ℕ) →
+        IsPlaced bytes (note_of note.now) → (k : ℕ) (d : FlatEvent) (rest : List FrameNote) →
+        k < length all.old → pipes.named_by (pipes.last_name (order_of order) ids.now k rest)
+        (names.flat_name bytes (slice_index_or all.new k d)) ≡ pipes.named_by
+        (pipes.last_name (order_of order) ids.now k (note_of note.now ∷ rest))
+        (names.flat_name bytes (slice_index_or all.old k d)) }
+{
+    let Some((event, name)) = new_name_in(order, ids, note) else {
+        return;
+    };
+    if event >= all.len() {
+        return;
+    }
+    rename_at(all, event, name);
+}
+
+// Gives events their new names.
+fn rename_all(order: Dynamic, bytes: &[u8], ids: &[IdOfEvent], all: &mut [FlatEvent])
+    requires { 16 ≤ length bytes.now }
+    ensures same { map names.nameless all.new ≡ map names.nameless all.old }
+    ensures named { IsNonDecreasingBy (λ (e : IdOfEvent). e.id) ids.now → (k : ℕ) (d : FlatEvent) →
+        k < length all.old → names.flat_name bytes.now (slice_index_or all.new k d) ≡ pipes.named_by
+        (pipes.last_name (order_of order) ids.now k (pipes.all_frames order (drop 16 bytes.now)))
+        (names.flat_name bytes.now (slice_index_or all.old k d)) }
+{
+    for note in frames_of(order, bytes.split_at(16).1) {
+        rename_by(order, ids, &note, all);
+    }
+}
+
+// Where the descriptions of events are in a pipe; no bytes if there are none.
+fn noted_descriptions(order: Dynamic, bytes: &[u8]) -> Section
+    requires { 16 ≤ length bytes.now }
+    ensures inside { IsInside bytes.now result }
+    ensures value { bytes_of bytes.now result ≡ or_nothing (pipes.noted_feature (order_of order) 12
+        (pipes.all_frames order (drop 16 bytes.now))) }
+{
+    match noted_section(order, bytes, 12) {
+        Some(section) => section,
+        None => Section { start: 0, size: 0 },
+    }
+}
+
+// Finds the names of the events of a pipe.
+fn find_noted(
+    order: Dynamic,
+    bytes: &[u8],
+    all: &mut [FlatEvent],
+    ids: &[IdOfEvent],
+    found: &mut [NamePlace],
+)
+    requires long { 16 ≤ length bytes.now }
+    requires room { length found.old ≡ length all.old }
+    ensures same { map names.nameless all.new ≡ map names.nameless all.old }
+    ensures named { IsNonDecreasingBy (λ (e : IdOfEvent). e.id) ids.now → (k : ℕ) (d : FlatEvent) →
+        k < length all.old → names.flat_name bytes.now (slice_index_or all.new k d) ≡ pipes.named_by
+        (pipes.last_name (order_of order) ids.now k (pipes.all_frames order (drop 16 bytes.now)))
+        (names.described_by (order_of order) (or_nothing (pipes.noted_feature (order_of order) 12
+        (pipes.all_frames order (drop 16 bytes.now)))) bytes.now (slice_index_or all.old k d)) }
+{
+    find_all(order, bytes, noted_descriptions(order, bytes), all, found);
+    rename_all(order, bytes, ids, all);
+}
+
+// Finds the names of the events of a file that is no pipe, as `ped_file_names` does.
+fn find_in_file(bytes: &[u8], all: &mut [FlatEvent], found: &mut [NamePlace]) -> u32
+    requires { length found.old ≡ length all.old }
+    ensures named { (h : Head) → checked_head bytes.now ≡ Ok h → (result ≡ 0)
+        × names.FindsNames (order_of h.order) (descriptions_of bytes.now h) bytes.now
+        all.old all.new }
+    ensures refused { (e : OpenError) → checked_head bytes.now ≡ Err e →
+        (result ≡ open_code e) × (all.new ≡ all.old) × (found.new ≡ found.old) }
+{
+    match checked_head(bytes) {
+        Ok(head) => {
+            find_all(
+                head.order,
+                bytes,
+                description_section(bytes, head),
+                all,
+                found,
+            );
+            0
+        }
+        Err(refusal) => open_code(refusal),
+    }
+}
+
+/// Finds the names of a file's events, writes to each event where its name is, and returns 0. `ids` are
+/// those of all events, as [`ped_file_events`] wrote them. `found` is room for this, of as many elements
+/// as there are events: with another count it returns [`OTHER_COUNT`], and nothing is written. If the
+/// head of the file is refused, it returns the number of the refusal, and nothing is written.
 ///
 /// An event that is not described, or whose name has no bytes, has a place of no bytes.
+///
+/// [`ped_file_events`]: crate::file_events::ped_file_events
 #[unsafe(no_mangle)]
 pub extern "C" fn ped_file_names(
     bytes: &[u8],
     all: &mut [FlatEvent],
+    ids: &[IdOfEvent],
     found: &mut [NamePlace],
 ) -> u32
-    ensures named { (h : Head) → checked_head bytes.now ≡ Ok h → length found.old ≡ length all.old →
-        (result ≡ 0) × names.FindsNames h bytes.now all.old all.new }
-    ensures file { (f : File) (ids : List IdOfEvent) → opened_file bytes.now ≡ Ok f →
-        IsRead bytes.now f all.old ids → HaveIds bytes.now all.old →
-        length found.old ≡ length all.old → map (names.flat_name bytes.now) all.new ≡
-        map (name_of f.order (file_descriptions bytes.now)) f.events }
-    ensures refused { (e : OpenError) → checked_head bytes.now ≡ Err e →
-        length found.old ≡ length all.old →
+    ensures named { (h : Head) → pipes.pipe_order bytes.now ≡ None → checked_head bytes.now ≡ Ok h →
+        length found.old ≡ length all.old → (result ≡ 0)
+        × names.FindsNames (order_of h.order) (descriptions_of bytes.now h) bytes.now
+        all.old all.new }
+    ensures file { (f : File) → opened bytes.now ≡ Ok f → IsRead bytes.now f all.old ids.now →
+        HaveIds bytes.now all.old → length found.old ≡ length all.old →
+        names.AreNames bytes.now f all.new }
+    ensures refused { (e : OpenError) → pipes.pipe_order bytes.now ≡ None →
+        checked_head bytes.now ≡ Err e → length found.old ≡ length all.old →
         (result ≡ open_code e) × (all.new ≡ all.old) × (found.new ≡ found.old) }
     ensures other { length found.old ≢ length all.old →
         (result ≡ OTHER_COUNT) × (all.new ≡ all.old) × (found.new ≡ found.old) }
@@ -168,11 +291,11 @@ pub extern "C" fn ped_file_names(
     if found.len() != all.len() {
         return OTHER_COUNT;
     }
-    match checked_head(bytes) {
-        Ok(head) => {
-            find_all(bytes, head, all, found);
+    match pipe_order(bytes) {
+        Some(order) => {
+            find_noted(order, bytes, all, ids, found);
             0
         }
-        Err(refusal) => open_code(refusal),
+        None => find_in_file(bytes, all, found),
     }
 }

@@ -1,8 +1,9 @@
 //! Frames of a file, each read under its own event.
 
 ghost use Rattle.std.specs.Prelude.{◌≡◌, Ok, Some, None, MatchOption, min, drop, length};
-ghost use Rattle.perf_file.specs.Opened.{File, opened_file};
-ghost use Rattle.perf_file.specs.Outlines.{outline};
+ghost use Rattle.perf_file.specs.Forms.{opened};
+ghost use Rattle.perf_file.specs.Opened.{File};
+ghost use Rattle.perf_file.specs.PipeOutlines.{form_outline};
 ghost use Rattle.perf_file.specs.declared.summary.Outline.{Outline};
 ghost use Rattle.perf_event_c.specs.EntryReads as reads;
 ghost use Rattle.perf_event_c.specs.Files.{flat_file};
@@ -54,7 +55,7 @@ fn read_entry(
     entry: &FlatEntry,
     frame: &mut FlatFrame,
 )
-    ensures { (o : Outline) (f : File) → outline bytes.now ≡ Ok o → opened_file bytes.now ≡ Ok f →
+    ensures { (o : Outline) (f : File) → form_outline bytes.now ≡ Ok o → opened bytes.now ≡ Ok f →
         file.now ≡ flat_file o → reads.States f bytes.now all.now →
         reads.ReadsEntry f entry.now frame.old frame.new }
 {
@@ -89,7 +90,7 @@ pub extern "C" fn ped_file_read(
     frames: &mut [FlatFrame],
 ) -> usize
     ensures count { result ≡ min (length entries.now) (length frames.old) }
-    ensures frames { (o : Outline) (f : File) → outline bytes.now ≡ Ok o → opened_file bytes.now ≡ Ok f →
+    ensures frames { (o : Outline) (f : File) → form_outline bytes.now ≡ Ok o → opened bytes.now ≡ Ok f →
         file.now ≡ flat_file o → reads.States f bytes.now all.now →
         reads.ReadsEntries f entries.now result frames.old frames.new }
     ensures after { drop result frames.new ≡ drop result frames.old }

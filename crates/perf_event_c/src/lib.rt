@@ -11,6 +11,7 @@ pub mod event_name;
 pub mod file;
 pub mod file_entries;
 pub mod file_events;
+pub mod file_feature;
 pub mod file_names;
 pub mod file_read;
 pub mod identifier;

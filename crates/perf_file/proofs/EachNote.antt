@@ -1,5 +1,5 @@
 -- Notes read one after another, as a loop does.
-use Rattle.std.proofs.Common.{◌≡◌, ℕ, zero, suc, ◌+◌, ◌≤◌, ◌<◌, List, [], ◌∷◌, ◌++◌, length, map, drop, get_or, Result, Ok, Err, refl, sym, ap, ◌∙◌, arith}
+use Rattle.std.proofs.Common.{◌≡◌, ℕ, suc, ◌+◌, ◌≤◌, ◌<◌, List, [], ◌∷◌, ◌++◌, length, map, drop, get_or, Result, Ok, Err, refl, sym, ap, ◌∙◌}
 use Rattle.std.proofs.Math.ListN.{drop_of_length-le}
 use Rattle.std.proofs.lemmas.List.{append-nil, drop_more}
 use Rattle.perf_file.specs.NoteViews.{note_of}
@@ -46,7 +46,7 @@ is_done {A} item front list i total le so_far =
     sym so_far ∙ one
 
 -- as many items as notes
-each_length : {A : Type 0} (item : ℕ → FrameNote → Result A OpenError) (i : ℕ) (ns : List FrameNote) (xs : List A) → each_of item i ns ≡ Ok xs → length xs ≡ length ns
+pub each_length : {A : Type 0} (item : ℕ → FrameNote → Result A OpenError) (i : ℕ) (ns : List FrameNote) (xs : List A) → each_of item i ns ≡ Ok xs → length xs ≡ length ns
 unfolding each_of
 each_length {A} item i [] xs h = let e : [] ≡ xs = cc in ap (λ (ys : List A). length ys) (sym e)
 each_length {A} item i (n ∷ ns) xs h = go (item i n) (each_of item (i + 1) ns) refl h (λ ys e. each_length item (i + 1) ns ys e)

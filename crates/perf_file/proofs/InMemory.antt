@@ -20,7 +20,7 @@ use Rattle.perf_file.proofs.Whole.{same_length}
 abbrev done : {A : Type 0} → Result A OpenError → Result (Unit {0}) OpenError
 done r = r >>= λ all. Ok tt
 
-again : {A B : Type 0} (d e : OpenError) → ◌≡◌ {A = Result A OpenError} (Err d) (Err e) → ◌≡◌ {A = Result B OpenError} (Err d) (Err e)
+pub again : {A B : Type 0} (d e : OpenError) → ◌≡◌ {A = Result A OpenError} (Err d) (Err e) → ◌≡◌ {A = Result B OpenError} (Err d) (Err e)
 again d e is = let s : d ≡ e = cc in ap (λ x. Err x) s
 
 -- what is refused before parts are compared is refused
@@ -63,12 +63,12 @@ parts_some h (Ok ids) parts is = go (checked_apart (sections_of h ids)) refl is
     go (Ok u) c is = let s : sections_of h ids ≡ parts = cc in (ids, refl, sym s, c)
     go (Err e) c is = absurd (cc)
 
-attributes_zip : (o : Order) (bytes : List ℕ) (ats : List perf_event_attr) (ss : List Section) → length ats ≡ length ss → attributes_of (map (event_in o bytes) (zip ats ss)) ≡ ats
+pub attributes_zip : (o : Order) (bytes : List ℕ) (ats : List perf_event_attr) (ss : List Section) → length ats ≡ length ss → attributes_of (map (event_in o bytes) (zip ats ss)) ≡ ats
 attributes_zip o bytes [] ss same = refl
 attributes_zip o bytes (a ∷ ats) [] same = absurd (omega (arith, same))
 attributes_zip o bytes (a ∷ ats) (s ∷ ss) same = ap (λ xs. a ∷ xs) (attributes_zip o bytes ats ss (omega (arith, same)))
 
-ids_zip : (o : Order) (bytes : List ℕ) (ats : List perf_event_attr) (ss : List Section) → length ats ≡ length ss → map (λ (e : FileEvent). e.ids) (map (event_in o bytes) (zip ats ss)) ≡ map (words_in o bytes) ss
+pub ids_zip : (o : Order) (bytes : List ℕ) (ats : List perf_event_attr) (ss : List Section) → length ats ≡ length ss → map (λ (e : FileEvent). e.ids) (map (event_in o bytes) (zip ats ss)) ≡ map (words_in o bytes) ss
 ids_zip o bytes ats [] same = nothing ats
   where
     nothing : (xs : List perf_event_attr) → map (λ (e : FileEvent). e.ids) (map (event_in o bytes) (zip xs [])) ≡ []

@@ -15,7 +15,7 @@ use Rattle.perf_file.specs.Owners.{owner_of_sight}
 use Rattle.perf_file.specs.Pieces.{Piece, piece_in, place_in, after_piece, after_frame, first_pieces, pieces, drop_most, take_most, size_of, header_seen, payload_length}
 use Rattle.perf_file.specs.declared.owning.Owner.{Owner}
 
-length-drop_most : (n : ℕ) (bytes : List ℕ) → length (drop_most n bytes) ≤ length bytes
+pub length-drop_most : (n : ℕ) (bytes : List ℕ) → length (drop_most n bytes) ≤ length bytes
 length-drop_most n bytes = elim (cases_lt n (length bytes)) [
   | inl lt ↦ let a : nat_lt n (length bytes) ≡ true = lt-ltb n (length bytes) lt in rw a (omega (arith, length-drop n bytes))
   | inr le ↦ let a : nat_lt n (length bytes) ≡ false = le-ltb n (length bytes) le in rw a (omega arith)
@@ -66,7 +66,7 @@ pub no_piece : (f : File) (bytes : List ℕ) → length bytes < 8 → pieces f b
 no_piece f bytes h = short f (length bytes) bytes h
 
 -- the header of what is found is the one at the front
-header_after : (h : perf_event_header) (bytes : List ℕ) → header_seen (sight_after h bytes true) ≡ h
+pub header_after : (h : perf_event_header) (bytes : List ℕ) → header_seen (sight_after h bytes true) ≡ h
 header_after h bytes = elim (cases_lt h.size 8) [
   | inl lt ↦ let a : nat_lt h.size 8 ≡ true = lt-ltb h.size 8 lt in rw a refl
   | inr le ↦ let a : nat_lt h.size 8 ≡ false = le-ltb h.size 8 le in elim (cases_lt (length bytes) (h.size - 8)) [
@@ -75,7 +75,7 @@ header_after h bytes = elim (cases_lt h.size 8) [
   ]
 ]
 
-size_is : (h : perf_event_header) → size_of h ≡ max 8 h.size
+pub size_is : (h : perf_event_header) → size_of h ≡ max 8 h.size
 size_is h = elim (cases_lt h.size 8) [
   | inl lt ↦ let a : nat_lt h.size 8 ≡ true = lt-ltb h.size 8 lt in rw a (omega arith)
   | inr le ↦ let a : nat_lt h.size 8 ≡ false = le-ltb h.size 8 le in rw a (omega arith)

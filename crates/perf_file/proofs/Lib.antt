@@ -21,3 +21,6 @@ pub mod Builds
 pub mod Noted
 pub mod EachNote
 pub mod NewNames
+pub mod PipeCounts
+pub mod PipeInMemory
+pub mod NotePlacing

@@ -1,5 +1,5 @@
 -- The notes of a pipe.
-use Rattle.std.proofs.Common.{◌≡◌, ℕ, ◌+◌, ◌-◌, ◌≤◌, ◌<◌, List, [], ◌∷◌, length, map, take, drop, Option, Some, None, Bool, true, false, cond, nat_lt, inl, inr, refl, sym, ap, ◌∙◌, arith}
+use Rattle.std.proofs.Common.{◌≡◌, ℕ, ◌+◌, ◌≤◌, ◌<◌, List, [], ◌∷◌, length, map, take, drop, Option, Some, None, true, false, nat_lt, inl, inr, refl, sym, ap, ◌∙◌, arith}
 use Rattle.std.proofs.lemmas.Bool.{lt-ltb, le-ltb, cases_lt}
 use Rattle.std.proofs.lemmas.List.{length-drop, length-take-le}
 use Rattle.perf_base.specs.Dynamic.{order_of}
@@ -8,10 +8,10 @@ use Rattle.perf_base.specs.Layout.{slice}
 use Rattle.perf_base.specs.Order.{Order}
 use Rattle.perf_base.specs.declared.sys.perf_event_header.{perf_event_header}
 use Rattle.perf_records.specs.Answers.{length_after}
-use Rattle.perf_records.specs.Sights.{Sight, whole, bad, sight_in, sight_after}
+use Rattle.perf_records.specs.Sights.{Sight, sight_in, sight_after}
 use Rattle.perf_file.specs.Opened.{File}
 use Rattle.perf_file.specs.Pieces.{Piece, pieces, piece_in, after_piece}
-use Rattle.perf_file.specs.Pipes.{FrameNote, note_in, pipe_with, newer, body_seen}
+use Rattle.perf_file.specs.Pipes.{FrameNote, note_in, newer, body_seen}
 use Rattle.perf_file.proofs.Laws.{some_piece, no_piece}
 
 -- ---- the bytes after a header

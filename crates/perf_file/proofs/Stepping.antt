@@ -9,7 +9,7 @@ use Rattle.perf_file.specs.Sections.{ShareNothing}
 use Rattle.perf_file.specs.Opens.{◌>>=◌, each_from}
 use Rattle.perf_file.specs.Outlines.{ids_in, id_count}
 
-regroup : {A B : Type 0} (x : A) (k : List A → Result B OpenError) (read : Result (List A) OpenError) → ((read >>= λ xs. Ok (x ∷ xs)) >>= k) ≡ (read >>= λ xs. k (x ∷ xs))
+pub regroup : {A B : Type 0} (x : A) (k : List A → Result B OpenError) (read : Result (List A) OpenError) → ((read >>= λ xs. Ok (x ∷ xs)) >>= k) ≡ (read >>= λ xs. k (x ∷ xs))
 regroup x k (Ok xs) = refl
 regroup x k (Err e) = refl
 

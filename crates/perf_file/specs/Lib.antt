@@ -24,6 +24,8 @@ pub mod Outlines
 pub mod Finders
 pub mod FeatureTable
 pub mod Pipes
+pub mod PipeOutlines
+pub mod NotePlaces
 pub mod NoteViews
 pub mod Forms
 pub mod FeatureTexts

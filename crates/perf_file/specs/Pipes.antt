@@ -1,6 +1,6 @@
 -- The pipe form, which `perf record -o -` writes: a head of 16 bytes, and then frames. Some of them
 -- state what a file states in its parts.
-use Rattle.std.specs.Prelude.{ℕ, ◌+◌, ◌==◌, ◌&&◌, ◌||◌, Bool, true, false, List, [], ◌∷◌, length, map, drop, nat_lt, nat_le, Option, Some, None, Result, Ok, Err, if◌then◌else◌}
+use Rattle.std.specs.Prelude.{ℕ, ◌+◌, ◌==◌, ◌&&◌, ◌||◌, Bool, true, false, List, [], ◌∷◌, length, map, drop, nat_lt, Option, Some, None, Result, Ok, Err, if◌then◌else◌}
 use Rattle.std.specs.List.{filter, list_any, zip}
 use Rattle.perf_base.specs.Dynamic.{order_of}
 use Rattle.perf_base.specs.Order.{Order}
@@ -17,7 +17,7 @@ use Rattle.perf_file.specs.IdSections.{checked_ids}
 use Rattle.perf_file.specs.IdTables.{event_of, is_event}
 use Rattle.perf_file.specs.Names.{Name, described, name_of}
 use Rattle.perf_file.specs.Numbers.{number, small_number}
-use Rattle.perf_file.specs.Opened.{File, FileEvent, event_in, checked_events, table_of}
+use Rattle.perf_file.specs.Opened.{File, FileEvent, event_in, checked_events}
 use Rattle.perf_file.specs.Opens.{◌>>=◌}
 use Rattle.perf_file.specs.Pieces.{Piece, header_seen, pieces_of, take_most, drop_most}
 use Rattle.perf_file.specs.declared.error.OpenError.{OpenError}

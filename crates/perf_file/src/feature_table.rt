@@ -61,7 +61,11 @@ fn checked_section(bytes: &[u8], section: Section) -> Result<Option<Section>, Ba
 }
 
 // Where a feature is, if the file has it.
-fn section_of(bytes: &[u8], head: Head, feature: u8) -> Result<Option<Section>, BadFeature>
+pub(crate) fn section_of(
+    bytes: &[u8],
+    head: Head,
+    feature: u8,
+) -> Result<Option<Section>, BadFeature>
     requires good { IsGoodHead bytes.now head }
     requires whole { 104 ≤ length bytes.now }
     ensures value { result ≡ table.section_of bytes.now head feature }

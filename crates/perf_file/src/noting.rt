@@ -87,7 +87,7 @@ fn is_note(note: &Note<'_>) -> bool
 }
 
 // Whether it has frames that are compressed.
-fn is_compressed(note: &Note<'_>) -> bool
+pub(crate) fn is_compressed(note: &Note<'_>) -> bool
     ensures { result ≡ pipes.is_compressed (views.note_of note.now) }
 {
     note.header.type_ == 81 || note.header.type_ == 83
@@ -139,7 +139,7 @@ pub fn notes_of_type<'p>(
 }
 
 // Whether a note is the feature with a number.
-fn has_number(order: Dynamic, note: &Note<'_>, feature: u64) -> bool
+pub(crate) fn has_number(order: Dynamic, note: &Note<'_>, feature: u64) -> bool
     ensures value { result ≡ pipes.has_number (order_of order) feature (views.note_of note.now) }
     ensures long { OnTrue result (8 ≤ length note.now.body.now) }
 {

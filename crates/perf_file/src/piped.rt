@@ -68,8 +68,8 @@ fn attribute_size(order: Dynamic, body: &[u8]) -> u64
     }
 }
 
-// The attribute of the event with that number.
-fn noted_attribute(
+/// The attribute of the event with that number.
+pub fn noted_attribute(
     alloc: Global,
     order: Dynamic,
     index: usize,
@@ -84,8 +84,8 @@ fn noted_attribute(
     }
 }
 
-// Where the ids of that event are.
-fn noted_ids(
+/// Where the ids of that event are.
+pub fn noted_ids(
     order: Dynamic,
     bytes: &[u8],
     index: usize,
@@ -184,7 +184,7 @@ fn noted_descriptions<'p>(order: Dynamic, notes: &[Note<'p>]) -> &'p [u8]
 }
 
 // The new name that a note has, of at least one byte.
-fn name_in<'p>(order: Dynamic, note: &Note<'p>) -> Option<&'p [u8]>
+pub(crate) fn name_in<'p>(order: Dynamic, note: &Note<'p>) -> Option<&'p [u8]>
     ensures value { MatchOption result
         (pipes.has_name (order_of order) (views.note_of note.now) ≡ false)
         (λ name. (pipes.has_name (order_of order) (views.note_of note.now) ≡ true)

@@ -1,12 +1,4 @@
-use Rattle.std.proofs.Common.{◌≡◌, Result, Err, refl, ap, ◌∙◌}
-use Rattle.perf_file.specs.declared.error.OpenError.{OpenError}
-use Rattle.perf_file.specs.declared.summary.Outline.{Outline}
-use Rattle.perf_file.proofs.InMemory.{outline_refused}
-use Rattle.perf_event_c.specs.Files.{open_code}
 use Rattle.perf_event_c.proofs.file_events.ped_file_events.Goals as goal
 
-pub returns-in-Err-clause-refused : goal.returns-in-Err-clause-refused
-returns-in-Err-clause-refused c e is =
-    let both : ◌≡◌ {A = Result Outline OpenError} (Err c.in-Err.refusal) (Err e) = c.in-Err.ensures.value ∙ is in
-    let same : c.in-Err.refusal ≡ e = cc in
-    (outline_refused c.args.bytes.now e is, c.open_code.ensures ∙ ap open_code same, refl, refl, refl)
+pub returns-in-Some-clause-opened : goal.returns-in-Some-clause-opened
+returns-in-Some-clause-opened c = ?

@@ -1,12 +1,13 @@
 use Rattle.std.proofs.Common.{◌≡◌, List, Ok, All, length, drop, ap, sym, subst, ◌∙◌}
 use Rattle.std.proofs.lemmas.Result.{err_from_is_err_and}
 use Rattle.perf_base.specs.Dynamic.{order_of}
+use Rattle.perf_file.specs.Opened.{opened_file}
 use Rattle.perf_file.specs.Outlines.{id_count, table_in}
 use Rattle.perf_file.specs.Sections.{IsInside}
 use Rattle.perf_file.specs.declared.section.Section.{Section}
 use Rattle.perf_file.proofs.InMemory.{has_events, parts_refused}
 use Rattle.perf_event_c.specs.FileEvents.{flat_events}
-use Rattle.perf_event_c.proofs.FileLaws.{places_refused, read_ends, ids_room, rest_is, all_after}
+use Rattle.perf_event_c.proofs.FileLaws.{opens_file, event_list, file_table, places_refused, read_ends, ids_room, rest_is, all_after}
 use Rattle.perf_event_c.proofs.NameLaws.{have_ids, always_ok}
 use Rattle.perf_event_c.proofs.file_events.read_events.Goals as goal
 
@@ -24,7 +25,7 @@ returns-in_err-check_places-clause-file c =
     let all = c.fill_events.new.all in
     let has = has_events bytes head parts c.requires.head c.requires.attributes c.in_ok-read_parts.ensures.exact in
     let is : flat_events bytes head (drop 3 parts) ≡ Ok all = subst (λ (ss : List Section). flat_events bytes head ss ≡ Ok all) (rest_is parts) c.in_ok-fill_events.ensures in
-    rw (p.1, p.2) (places_refused bytes head parts all c.in_err-check_places.field-0.0 has is (sym c.in_err-check_places.ensures))
+    rw (p.1, p.2) (places_refused head.order bytes (opened_file bytes) has.attributes has.ids all c.in_err-check_places.field-0.0 (opens_file bytes head parts has) (event_list all has is) (sym c.in_err-check_places.ensures))
 
 pub fill_ids-requires-clause-inside : goal.fill_ids-requires-clause-inside
 fill_ids-requires-clause-inside c =
@@ -44,8 +45,8 @@ returns-clause-file c =
     let all = c.fill_events.new.all in
     let has = has_events bytes head parts c.requires.head c.requires.attributes c.in_ok-read_parts.ensures.exact in
     let is : flat_events bytes head (drop 3 parts) ≡ Ok all = subst (λ (ss : List Section). flat_events bytes head ss ≡ Ok all) (rest_is parts) c.in_ok-fill_events.ensures in
-    read_ends c.check_ids.result bytes head parts all c.fill_ids.new.ids c.check_ids.new.ids has is (sym c.in_ok-check_places.ensures)
-    (c.fill_ids.ensures ∙ ap (table_in (order_of head.order) bytes) (rest_is parts)) c.check_ids.ensures.value c.check_ids.ensures.same c.check_ids.ensures.sorted c.check_ids.ensures.found
+    read_ends c.check_ids.result head.order bytes (opened_file bytes) has.attributes has.ids all c.fill_ids.new.ids c.check_ids.new.ids (opens_file bytes head parts has) (event_list all has is) (sym c.in_ok-check_places.ensures)
+    (file_table c.fill_ids.new.ids has (c.fill_ids.ensures ∙ ap (table_in (order_of head.order) bytes) (rest_is parts))) c.check_ids.ensures.value c.check_ids.ensures.same c.check_ids.ensures.sorted c.check_ids.ensures.found
 
 pub returns-clause-inside : goal.returns-clause-inside
 returns-clause-inside c =

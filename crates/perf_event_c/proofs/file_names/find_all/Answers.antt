@@ -8,10 +8,10 @@ use Rattle.perf_event_c.proofs.NameLaws.{contains_map, all_unnamed}
 use Rattle.perf_event_c.proofs.file_names.find_all.Goals as goal
 
 pub find_names-requires : goal.find_names-requires
-find_names-requires c = subst (All IsUnnamed) (sym c.fill_keys.ensures) (all_unnamed (λ (e : FlatEvent). flat_key (order_of c.args.head.order) c.args.bytes.now e) c.args.all.now)
+find_names-requires c = subst (All IsUnnamed) (sym c.fill_keys.ensures) (all_unnamed (λ (e : FlatEvent). flat_key (order_of c.args.order) c.args.bytes.now e) c.args.all.now)
 
 pub put_names-requires-clause-kept : goal.put_names-requires-clause-kept
 put_names-requires-clause-kept c index e lt =
-    let f = λ (x : FlatEvent). unnamed (flat_key (order_of c.args.head.order) c.args.bytes.now x) in
+    let f = λ (x : FlatEvent). unnamed (flat_key (order_of c.args.order) c.args.bytes.now x) in
     let x = get_or c.args.all.now index e in
     c.find_names.ensures.kept (f x) (subst (λ (ps : List NamePlace). Contains ps (f x)) (sym c.fill_keys.ensures) (contains_map f c.args.all.now index e lt))

@@ -3,8 +3,8 @@ use Rattle.std.proofs.Math.Seq.{map-set_same}
 use Rattle.std.proofs.lemmas.Grind.{take-set_at}
 use Rattle.std.proofs.lemmas.List.{take_all, take_more, map_push}
 use Rattle.perf_base.specs.Dynamic.{order_of}
-use Rattle.perf_file.specs.Descriptions.{first_name, descriptions_in}
 use Rattle.perf_file.specs.NamePlaces.{HasRank, rank_of}
+use Rattle.perf_file.specs.NotePlaces.{bytes_of}
 use Rattle.perf_file.specs.Names.{Name, described_or, name_by_numbers}
 use Rattle.perf_event_c.specs.FlatNames.{flat_key, flat_name, described_by, nameless}
 use Rattle.perf_event_c.specs.declared.file_events.FlatEvent.{FlatEvent}
@@ -13,7 +13,7 @@ use Rattle.perf_event_c.proofs.file_names.put_names.Goals as goal
 
 pub name_of-name-requires-clause-kept : goal.name_of-name-requires-clause-kept
 name_of-name-requires-clause-kept c =
-    let o = order_of c.args.head.order in
+    let o = order_of c.args.order in
     let i = c.loop-index.index in
     let lt : i < length c.loop-index.all = omega (arith, c.loop-index.auto.all, c.loop-index-test.true) in
     let same = nameless_at c.loop-index.all c.args.all.now i zero_event c.loop-index.invariant.same lt in
@@ -21,8 +21,8 @@ name_of-name-requires-clause-kept c =
 
 pub loop-index-preserved : goal.loop-index-preserved
 loop-index-preserved c =
-    let h = c.args.head in
-    let o = order_of h.order in
+    let o = order_of c.args.order in
+    let ds = bytes_of c.args.bytes.now c.args.descriptions in
     let bytes = c.args.bytes.now in
     let i = c.loop-index.index in
     let all = c.loop-index.all in
@@ -33,15 +33,15 @@ loop-index-preserved c =
     let lt : i < length all = omega (arith, c.loop-index.auto.all, c.loop-index-test.true) in
     let there : i < length old = omega (arith, lt, c.loop-index.auto.all) in
     let same = nameless_at all old i zero_event c.loop-index.invariant.same lt in
-    let own : flat_name bytes e' ≡ described_by h bytes e = ap (λ x. described_or x (name_by_numbers e.type_ e.event)) (c.name_of-name.ensures ∙ ap (λ d. first_name (flat_key o bytes e) (descriptions_in o d)) c.requires.value) in
-    let both : flat_name bytes e' ≡ described_by h bytes (get_or old i zero_event) = own ∙ ap (λ (x : FlatEvent). described_by h bytes x) same in
+    let own : flat_name bytes e' ≡ described_by o ds bytes e = ap (λ x. described_or x (name_by_numbers e.type_ e.event)) c.name_of-name.ensures in
+    let both : flat_name bytes e' ≡ described_by o ds bytes (get_or old i zero_event) = own ∙ ap (λ (x : FlatEvent). described_by o ds bytes x) same in
     record {
       names = ap (map (flat_name bytes)) (take-set_at all i (i + 1) e' (omega arith) lt)
           ∙ map_push (flat_name bytes) (take i all) e'
           ∙ ap (λ (xs : List Name). xs ++ flat_name bytes e' ∷ []) c.loop-index.invariant.names
-          ∙ ap (λ (x : Name). map (described_by h bytes) (take i old) ++ x ∷ []) both
-          ∙ sym (map_push (described_by h bytes) (take i old) (get_or old i zero_event))
-          ∙ ap (map (described_by h bytes)) (sym (take_more old i zero_event there));
+          ∙ ap (λ (x : Name). map (described_by o ds bytes) (take i old) ++ x ∷ []) both
+          ∙ sym (map_push (described_by o ds bytes) (take i old) (get_or old i zero_event))
+          ∙ ap (map (described_by o ds bytes)) (sym (take_more old i zero_event there));
       same = map-set_same nameless all i e' zero_event refl ∙ c.loop-index.invariant.same;
     }
 
@@ -52,6 +52,6 @@ returns c =
     let old = c.args.all.now in
     let full : length all ≤ i = omega (arith, c.loop-index.auto.all, c.loop-index-test.false) in
     record {
-      names = sym (ap (map (flat_name c.args.bytes.now)) (take_all i all full)) ∙ c.loop-index.invariant.names ∙ ap (map (described_by c.args.head c.args.bytes.now)) (take_all i old (omega (arith, full, c.loop-index.auto.all)));
+      names = sym (ap (map (flat_name c.args.bytes.now)) (take_all i all full)) ∙ c.loop-index.invariant.names ∙ ap (map (described_by (order_of c.args.order) (bytes_of c.args.bytes.now c.args.descriptions) c.args.bytes.now)) (take_all i old (omega (arith, full, c.loop-index.auto.all)));
       same = c.loop-index.invariant.same;
     }

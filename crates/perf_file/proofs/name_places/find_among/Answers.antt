@@ -1,10 +1,9 @@
-use Rattle.std.proofs.Common.{◌≡◌, ◌+◌, ◌-◌, ◌≤◌, ◌∷◌, List, ℕ, Some, true, drop, length, ap, subst, sym, ◌∙◌, arith}
+use Rattle.std.proofs.Common.{◌≡◌, ◌+◌, ◌-◌, ◌∷◌, List, ℕ, true, drop, ap, subst, sym, ◌∙◌, arith}
 use Rattle.std.proofs.lemmas.List.{length-drop}
 use Rattle.perf_base.specs.Dynamic.{order_of}
 use Rattle.perf_file.specs.Descriptions.{Description, description_in, descriptions, description_length, is_whole, first_name}
-use Rattle.perf_file.specs.NamePlaces.{key_in, rank_of, put, name_at, Fits, HasRank, Rises}
+use Rattle.perf_file.specs.NamePlaces.{key_in, rank_of, put, Fits}
 use Rattle.perf_file.specs.declared.descriptions.EventKey.{EventKey}
-use Rattle.perf_file.specs.declared.name_places.NamePlace.{NamePlace}
 use Rattle.perf_file.proofs.NamePlacing.{AreLeft, none_yet, all_named, no_description, all_described, next_description, whole_room, one_more, rises_put, has_put}
 use Rattle.perf_file.proofs.name_places.find_among.Goals as goal
 

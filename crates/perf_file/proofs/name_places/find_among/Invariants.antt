@@ -1,4 +1,4 @@
-use Rattle.std.proofs.Common.{◌≡◌, ◌-◌, ◌≤◌, ℕ, drop, length}
+use Rattle.std.proofs.Common.{◌-◌, ◌≤◌, ℕ, drop, length}
 use Rattle.perf_base.specs.Dynamic.{order_of}
 use Rattle.perf_file.specs.Descriptions.{first_name, descriptions}
 use Rattle.perf_file.specs.NamePlaces.{Rises, HasRank}

@@ -1,4 +1,4 @@
-use Rattle.std.proofs.Common.{◌≡◌, ◌/◌, Option, ℕ, ap, ◌∙◌, arith}
+use Rattle.std.proofs.Common.{◌/◌, Option, ℕ, ap, ◌∙◌, arith}
 use Rattle.perf_base.specs.Dynamic.{order_of}
 use Rattle.perf_file.specs.declared.descriptions.EventKey.{EventKey}
 use Rattle.perf_file.proofs.NamePlacing.{first_word}

@@ -1,4 +1,4 @@
-use Rattle.std.proofs.Common.{◌≡◌, ◌<◌, ℕ, length, All, Contains, get_or}
+use Rattle.std.proofs.Common.{◌<◌, ℕ, All, Contains, get_or}
 use Rattle.perf_base.specs.Dynamic.{order_of}
 use Rattle.perf_base.specs.declared.sys.perf_event_attr.{perf_event_attr}
 use Rattle.perf_file.specs.NamePlaces.{IsUnnamed, unnamed}

@@ -1,10 +1,9 @@
-use Rattle.std.proofs.Common.{◌≡◌, ◌++◌, List, Contains, take, drop, length, get_or, sym, subst, ap, ◌∙◌, arith}
+use Rattle.std.proofs.Common.{◌≡◌, ◌++◌, Contains, take, drop, length, get_or, sym, subst, ap, ◌∙◌, arith}
 use Rattle.std.proofs.Math.Seq.{take-append_seam}
 use Rattle.perf_base.specs.Dynamic.{order_of}
 use Rattle.perf_file.specs.NamePlaces.{unnamed, rank_of, HasRank}
 use Rattle.perf_file.specs.Names.{key_of}
 use Rattle.perf_file.specs.Opened.{event_in}
-use Rattle.perf_file.specs.declared.name_places.NamePlace.{NamePlace}
 use Rattle.perf_file.proofs.naming_events.names_of.Goals as goal
 
 pub returns-clause-kept : goal.returns-clause-kept

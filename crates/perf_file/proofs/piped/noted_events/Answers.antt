@@ -1,5 +1,4 @@
-use Rattle.std.proofs.Common.{List, length, map, zip, ap, sym, ◌∙◌}
-use Rattle.perf_base.specs.Dynamic.{order_of}
+use Rattle.std.proofs.Common.{List, length, map, ap, sym, ◌∙◌}
 use Rattle.perf_base.specs.declared.sys.perf_event_attr.{perf_event_attr}
 use Rattle.perf_file.specs.NoteViews.{note_of}
 use Rattle.perf_file.specs.Pipes.{noted_attribute, noted_ids}

@@ -1,8 +1,7 @@
-use Rattle.std.proofs.Common.{◌+◌, List, length, drop, map, get_or, ap, sym, subst, ◌∙◌, arith}
+use Rattle.std.proofs.Common.{◌+◌, List, drop, map, get_or, ap, sym, ◌∙◌, arith}
 use Rattle.perf_base.specs.Dynamic.{order_of}
 use Rattle.perf_file.specs.Names.{name_view}
 use Rattle.perf_file.specs.NoteViews.{note_of}
-use Rattle.perf_file.specs.Opened.{FileEvent, event_view}
 use Rattle.perf_file.specs.Pipes.{FrameNote, last_name, named_by}
 use Rattle.perf_file.proofs.EachNote.{here, none_left}
 use Rattle.perf_file.proofs.NewNames.{as_many}

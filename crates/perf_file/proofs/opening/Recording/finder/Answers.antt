@@ -5,7 +5,6 @@ use Rattle.perf_file.specs.Opened.{attributes_of, event_view}
 use Rattle.perf_file.specs.Owners.{first_has_ids}
 use Rattle.perf_file.specs.Views.{view}
 use Rattle.perf_file.specs.declared.events.Event.{Event}
-use Rattle.perf_file.specs.declared.ids.IdOfEvent.{IdOfEvent}
 use Rattle.perf_file.proofs.opening.Recording.finder.Goals as goal
 
 pub returns : goal.returns
