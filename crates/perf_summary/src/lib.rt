@@ -1,9 +1,9 @@
-//! What a file of `perf record` contains, in counts: its events, the types of its records and its tasks.
+//! What a file of `perf record` contains, in counts, and the engine of the command that writes them.
 #![tactic(auto)]
 
-pub mod contents;
+mod contents;
 pub mod counting;
 pub mod counts;
 pub mod run;
-pub mod text;
-pub mod type_names;
+mod text;
+mod type_names;
