@@ -151,8 +151,8 @@ fn first_of<'p>(recording: &Recording<'_>, bytes: &'p [u8]) -> FileFrame<'p>
     }
 }
 
-// What is left of the frames at an offset of the file, if that is at least a header.
-fn left_at<'p>(recording: &Recording<'p>, at: usize) -> Option<&'p [u8]>
+/// What is left of the frames of a file at an offset of the file, if that is at least a header.
+pub fn left_at<'p>(recording: &Recording<'p>, at: usize) -> Option<&'p [u8]>
     ensures value { option_map (λ b. b.now) result ≡ pieces.left_at (view recording.now) at }
     ensures long { IfSome result (λ b. 8 ≤ length b.now) }
 {

@@ -1,0 +1,6 @@
+pub mod Parts
+pub mod Plain
+pub mod Changes
+pub mod Calls
+pub mod Moments
+pub mod Steps

@@ -1,0 +1,135 @@
+//! A walk through the frames of a recording.
+
+ghost use Rattle.std.specs.Prelude.{◌≡◌, List, []};
+ghost use Rattle.perf_file.specs.Views.{view};
+ghost use Rattle.perf_history.specs.declared.changes.Change.{Change};
+ghost use Rattle.perf_walk.specs.Moments.{event_of};
+ghost use Rattle.perf_walk.specs.Plain.{IsPast};
+ghost use Rattle.perf_walk.specs.Steps.{Steps};
+
+use crate::changing::change_in;
+use crate::parts::first_frame;
+use perf_file::listing::left_at;
+use perf_file::{Entry, Owner, Recording};
+use perf_flat::frame::{FlatFrame, NUMBERS, SPANS, Span};
+use perf_flat::read::read_into;
+use perf_history::History;
+use std::alloc::{AllocError, Global};
+
+/// A walk through the frames of a recording, in any order: what is known of threads and memory is
+/// known by the frames so far. In the order of time, which [`Recording::in_order`] returns, it is
+/// what was so at each moment.
+#[derive(Drop)]
+pub struct Walk<'a, 'p> {
+    recording: &'a Recording<'p>,
+    history: History<'p>,
+    frame: FlatFrame,
+}
+
+/// The frame that was found in a step.
+#[derive(Clone, Copy, Debug)]
+pub struct Found<'p> {
+    /// Its bytes, from its header on: as many as the header states, or all that are left of the
+    /// frames. The spans of the flat frame are places in them.
+    pub bytes: &'p [u8],
+    /// The number of its event, in the order of the file.
+    pub event: usize,
+}
+
+// A frame before any was read.
+fn no_frame() -> FlatFrame {
+    FlatFrame {
+        type_: 0,
+        misc: 0,
+        size: 0,
+        read: 0,
+        refusal: 0,
+        reason: 0,
+        present: 0,
+        pid: 0,
+        tid: 0,
+        time: 0,
+        id: 0,
+        stream_id: 0,
+        cpu: 0,
+        read_format: 0,
+        numbers: [0; NUMBERS],
+        spans: [Span { at: 0, len: 0 }; SPANS],
+    }
+}
+
+// The number of an owner's event.
+fn event_of(owner: Owner) -> usize
+    ensures { result ≡ event_of owner }
+{
+    match owner {
+        Owner::Event(number) => number,
+        Owner::Perf | Owner::Unknown(_) | Owner::Short => 0,
+    }
+}
+
+impl<'a, 'p> Walk<'a, 'p> {
+    /// A walk before its first step. Nothing is known then.
+    pub fn new(alloc: Global, recording: &'a Recording<'p>) -> Walk<'a, 'p>
+        ensures recording { result.recording ≡ recording }
+        ensures known { IsPast result.history [] }
+    {
+        Walk {
+            recording,
+            history: History::new(alloc),
+            frame: no_frame(),
+        }
+    }
+
+    /// Goes on to the frame of an entry, and returns it. [`Walk::frame`] is the flat frame then, and
+    /// [`Walk::history`] knows what the frame states. `None` if the frame belongs to no event of the
+    /// file, as perf's own do, or if the entry is of another file.
+    ///
+    /// Out of memory what is known is as before.
+    pub fn step(&mut self, entry: &Entry) -> Result<Option<Found<'p>>, AllocError>
+        ensures steps { (older : List Change) → IsPast self.old.history older →
+            Steps (view self.old.recording.now) entry.now older result self.new }
+        ensures recording { self.new.recording ≡ self.old.recording }
+    {
+        let Some(bytes) = self.read(entry) else {
+            return Ok(None);
+        };
+        if let Some(change) = change_in(bytes, &self.frame) {
+            self.history.apply(change)?;
+        }
+        Ok(Some(Found {
+            bytes,
+            event: event_of(entry.owner),
+        }))
+    }
+
+    // Reads the frame of an entry.
+    fn read(&mut self, entry: &Entry) -> Option<&'p [u8]> {
+        let recording = self.recording;
+        let config = recording.config(entry.owner)?;
+        let bytes = left_at(recording, entry.at)?;
+        read_into(config, bytes, &mut self.frame);
+        Some(first_frame(bytes, self.frame.size))
+    }
+
+    /// The recording.
+    pub fn recording(&self) -> &'a Recording<'p>
+        ensures { result ≡ self.now.recording }
+    {
+        self.recording
+    }
+
+    /// The frame of the last step that found one, as plain numbers.
+    pub fn frame(&self) -> &FlatFrame
+        ensures { result.now ≡ self.now.frame }
+    {
+        &self.frame
+    }
+
+    /// What is known by then.
+    pub fn history(&self) -> &History<'p>
+        ensures { result.now ≡ self.now.history }
+    {
+        &self.history
+    }
+}

@@ -1,0 +1,6 @@
+//! A walk through a recording that was made by hand, and call chains. Without its tests this crate
+//! is empty.
+#![tactic(auto)]
+
+#[cfg(test)]
+mod tests;

@@ -1,0 +1,5 @@
+//! The tests.
+
+mod chains;
+mod recording;
+mod walks;
