@@ -28,7 +28,7 @@ address_column address = right 16 (digits 16 false address)
 
 -- a process and a thread
 abbrev pub task_column : (pid tid : ℕ) → List ℕ
-task_column pid tid = right 7 (signed pid) ++ (codes "/" ++ (left 7 (signed tid) ++ codes " "))
+task_column pid tid = right 5 (signed pid) ++ (codes "/" ++ (left 5 (signed tid) ++ codes " "))
 
 -- the number of a processor, of three digits or more
 abbrev pub cpu_number : ℕ → List ℕ

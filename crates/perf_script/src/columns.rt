@@ -7,32 +7,23 @@ ghost use Rattle.perf_script.specs.Columns as columns;
 use perf_text::strip::Strip;
 use std::alloc::AllocError;
 
-// How many bytes of padding are appended at once.
-const MOST: usize = 32;
-
-// Spaces.
-static SPACES: [u8; MOST] = [b' '; MOST];
-
-// Zeros.
-static ZEROS: [u8; MOST] = [b'0'; MOST];
-
-// Appends so many spaces.
-pub(crate) fn push_spaces(text: &mut Vec<u8>, count: usize) -> Result<(), AllocError>
-    ensures { OnOk result (text.new.items ≡ text.old.items ++ replicate count 32) }
+// Appends a byte so many times.
+fn push_fill(text: &mut Vec<u8>, fill: u8, count: usize) -> Result<(), AllocError>
+    ensures { OnOk result (text.new.items ≡ text.old.items ++ replicate count fill) }
 {
     let mut left = count;
-    while left > MOST {
-        text.extend_from_slice(&SPACES)?;
-        left -= MOST;
+    while left > 0 {
+        text.push(fill)?;
+        left -= 1;
     }
-    text.extend_from_slice(&SPACES[..left])
+    Ok(())
 }
 
 // Appends a text in a column of a width, with spaces before it.
 pub(crate) fn push_right(text: &mut Vec<u8>, width: usize, word: &[u8]) -> Result<(), AllocError>
     ensures { OnOk result (text.new.items ≡ text.old.items ++ columns.right width word.now) }
 {
-    push_spaces(text, width.saturating_sub(word.len()))?;
+    push_fill(text, b' ', width.saturating_sub(word.len()))?;
     text.extend_from_slice(word)
 }
 
@@ -41,15 +32,14 @@ fn push_left(text: &mut Vec<u8>, width: usize, word: &[u8]) -> Result<(), AllocE
     ensures { OnOk result (text.new.items ≡ text.old.items ++ columns.left width word.now) }
 {
     text.extend_from_slice(word)?;
-    push_spaces(text, width.saturating_sub(word.len()))
+    push_fill(text, b' ', width.saturating_sub(word.len()))
 }
 
 // Appends a text in a column of a width, with zeros before it.
 fn push_zeros(text: &mut Vec<u8>, width: usize, word: &[u8]) -> Result<(), AllocError>
-    requires { width ≤ MOST }
     ensures { OnOk result (text.new.items ≡ text.old.items ++ columns.zeros width word.now) }
 {
-    text.extend_from_slice(&ZEROS[..width.saturating_sub(word.len())])?;
+    push_fill(text, b'0', width.saturating_sub(word.len()))?;
     text.extend_from_slice(word)
 }
 
@@ -79,25 +69,24 @@ pub(crate) fn push_task(text: &mut Vec<u8>, pid: u32, tid: u32) -> Result<(), Al
 // Appends a process.
 fn push_process(text: &mut Vec<u8>, pid: u32) -> Result<(), AllocError>
     ensures { OnOk result (text.new.items ≡ text.old.items
-        ++ columns.right 7 (columns.signed pid)) }
+        ++ columns.right 5 (columns.signed pid)) }
 {
     let mut strip = Strip::new();
     put_signed(&mut strip, pid);
-    push_right(text, 7, strip.text().as_bytes())
+    push_right(text, 5, strip.text().as_bytes())
 }
 
 // Appends a thread.
 fn push_thread(text: &mut Vec<u8>, tid: u32) -> Result<(), AllocError>
-    ensures { OnOk result (text.new.items ≡ text.old.items ++ columns.left 7 (columns.signed tid)) }
+    ensures { OnOk result (text.new.items ≡ text.old.items ++ columns.left 5 (columns.signed tid)) }
 {
     let mut strip = Strip::new();
     put_signed(&mut strip, tid);
-    push_left(text, 7, strip.text().as_bytes())
+    push_left(text, 5, strip.text().as_bytes())
 }
 
 // Appends a number in a column of a width, with zeros before it.
 fn push_digits(text: &mut Vec<u8>, width: usize, number: u64) -> Result<(), AllocError>
-    requires { width ≤ MOST }
     ensures { OnOk result (text.new.items ≡ text.old.items
         ++ columns.zeros width (decimal number)) }
 {
