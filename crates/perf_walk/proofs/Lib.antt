@@ -1,0 +1,4 @@
+pub mod Values
+pub mod Stated
+pub mod PlainNames
+pub mod Chains

@@ -11,6 +11,7 @@ use Rattle.perf_history.specs.Modes.{mode_of}
 use Rattle.perf_history.specs.declared.changes.Change.{Change}
 use Rattle.perf_history.specs.declared.changes.Change.TheVariants.{Comm, Fork, Map, Symbol}
 use Rattle.perf_history.specs.declared.changes.Identity.{Identity}
+use Rattle.perf_history.specs.declared.changes.Inode as inodes
 use Rattle.perf_history.specs.declared.changes.Identity.TheVariants.{Unknown, BuildId, Inode}
 use Rattle.perf_records.specs.Answers.{answer_of_frame}
 use Rattle.perf_records.specs.Records.{RecordValue, mmap_is, comm_is, fork_is, mmap2_is, ksymbol_is}
@@ -55,16 +56,20 @@ mmap_change misc r = Map (record {
   executable = not (has_bit misc 13);
 })
 
+-- an inode, by the device and the number of a file
+abbrev pub inode_of : DetailValue → inodes.Inode
+inode_of d = record {
+  major = low_u32 (or_zero (maj_of d));
+  minor = low_u32 (or_zero (min_of d));
+  number = or_zero (ino_of d);
+  generation = or_zero (ino_generation_of d);
+}
+
 -- which file is mapped: by its build id if bit 14 of misc is set, else by its inode
 abbrev pub identity_of : (misc : ℕ) → DetailValue → Identity
 identity_of misc d =
     if has_bit misc build_id_bit then BuildId (lent (or_empty (build_id_of d)))
-    else Inode (record {
-      major = low_u32 (or_zero (maj_of d));
-      minor = low_u32 (or_zero (min_of d));
-      number = or_zero (ino_of d);
-      generation = or_zero (ino_generation_of d);
-    })
+    else Inode (inode_of d)
 
 -- an MMAP2: a mapping, of code if bit 2 of its protection is set, PROT_EXEC
 abbrev pub mmap2_change : (misc : ℕ) → Mmap2Value → Change

@@ -1,6 +1,7 @@
 pub mod Parts
 pub mod Plain
 pub mod Changes
+pub mod Contents
 pub mod Calls
 pub mod Moments
 pub mod Steps

@@ -37,10 +37,15 @@ moment f who c frame older = record {
   known = cons_option (change_of c (order_of f.order) frame) older;
 }
 
--- the moment of an entry, if it is of an event of the file, and a frame is there
+-- how the frame of an entry is read, and its bytes, if it is of an event of the file, and a frame is
+-- there
+abbrev pub frame_at : File → Entry → Option (Configuration × List ℕ)
+frame_at f e =
+    option_and_then (λ c. option_map (λ left. (c, first_frame (order_of f.order) left)) (left_at f e.at)) (config_of f e.owner)
+
+-- the moment of an entry, if it has a frame
 abbrev pub moment_at : File → Entry → (older : List Change) → Option Moment
-moment_at f e older =
-    option_and_then (λ c. option_map (λ left. moment f e.owner c (first_frame (order_of f.order) left) older) (left_at f e.at)) (config_of f e.owner)
+moment_at f e older = option_map (λ (found : Configuration × List ℕ). moment f e.owner found.0 found.1 older) (frame_at f e)
 
 -- what is known after an entry
 abbrev pub known_after : File → Entry → (older : List Change) → List Change

@@ -1,6 +1,6 @@
 //! The calls of a call chain.
 
-ghost use Rattle.std.specs.Prelude.{◌≡◌, ◌++◌, ◌/◌, Ok, OnOk, ℕ, List, length};
+ghost use Rattle.std.specs.Prelude.{◌≡◌, ◌≤◌, ◌++◌, ◌∷◌, ◌/◌, Ok, OnOk, IfOk, ℕ, List, length, take, drop};
 ghost use Rattle.perf_base.specs.Configuration.{Configuration};
 ghost use Rattle.perf_base.specs.Dynamic.{order_of};
 ghost use Rattle.perf_base.specs.Layout.{words_of};
@@ -10,7 +10,7 @@ ghost use Rattle.perf_records.specs.Records.{sample_is};
 ghost use Rattle.perf_sample_types.specs.Sample.{SampleValue};
 ghost use Rattle.perf_walk.specs.Calls as calls;
 
-use crate::parts::bytes_at;
+use crate::parts::string;
 use perf_base::Endian;
 use perf_base::endian::Dynamic;
 use perf_flat::frame::FlatFrame;
@@ -46,6 +46,35 @@ fn mode_after(mark: u64) -> Mode
     }
 }
 
+// Appends the call at a number of a chain, unless that is a mark, and returns the mode after it.
+fn push_number(calls: &mut Vec<Call>, mode: Mode, number: u64) -> Result<Mode, AllocError>
+    ensures { IfOk result (λ next. (rest : List ℕ) → calls.new.items ++ calls.calls_in next rest
+        ≡ calls.old.items ++ calls.calls_in mode (number ∷ rest)) }
+{
+    if number < FIRST_MARK {
+        calls.push(Call {
+            mode,
+            address: number,
+        })?;
+        Ok(mode)
+    } else {
+        Ok(mode_after(number))
+    }
+}
+
+// The first number, of eight bytes, and the bytes after it.
+fn next_number(order: Dynamic, bytes: &[u8]) -> (u64, &[u8])
+    requires { 8 ≤ length bytes.now }
+    ensures number { result.0 ≡ (order_of order).eight (take 8 bytes.now) }
+    ensures after { result.1.now ≡ drop 8 bytes.now }
+{
+    let number = match bytes.first_chunk::<8>() {
+        Some(eight) => order.convert_u64(*eight),
+        None => 0,
+    };
+    (number, &bytes[8..])
+}
+
 /// Appends the calls of a chain, the innermost first, by its numbers of eight bytes. A chain begins
 /// in user mode; marks among the numbers change that: -128 to the kernel, -512 to user mode, and
 /// any other from -4095 on to a mode that is not known.
@@ -53,27 +82,15 @@ pub fn push_chain(calls: &mut Vec<Call>, order: Dynamic, chain: &[u8]) -> Result
     ensures { OnOk result (calls.new.items ≡ calls.old.items
         ++ calls.chain_calls (words_of (order_of order) (length chain.now / 8) chain.now)) }
 {
+    let count = chain.len() / 8;
     let mut mode = Mode::User;
-    for index in 0..chain.len() / 8 {
-        let number = number_at(order, chain, index);
-        if number < FIRST_MARK {
-            calls.push(Call {
-                mode,
-                address: number,
-            })?;
-        } else {
-            mode = mode_after(number);
-        }
+    let mut left = chain;
+    for _index in 0..count {
+        let (number, after) = next_number(order, left);
+        mode = push_number(calls, mode, number)?;
+        left = after;
     }
     Ok(())
-}
-
-// The number with that index, of those of eight bytes.
-fn number_at(order: Dynamic, bytes: &[u8], index: usize) -> u64 {
-    match bytes[8 * index..].first_chunk::<8>() {
-        Some(eight) => order.convert_u64(*eight),
-        None => 0,
-    }
 }
 
 /// Appends the calls of a sample's chain, by the bytes of its frame and the flat frame that was read
@@ -88,5 +105,5 @@ pub fn push_calls(
         answer_of_frame c (order_of order) bytes.now ≡ Ok (sample_is s) →
         OnOk result (calls.new.items ≡ calls.old.items ++ calls.calls_of s) }
 {
-    push_chain(calls, order, bytes_at(bytes, frame.spans[0]))
+    push_chain(calls, order, string(bytes, frame, 0))
 }

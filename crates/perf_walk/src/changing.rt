@@ -1,13 +1,21 @@
 //! What a frame states about threads and memory.
 
-ghost use Rattle.std.specs.Prelude.{◌≡◌, ℕ, Ok, List, option_map};
+ghost use Rattle.std.specs.Prelude.{◌≡◌, List, option_map};
 ghost use Rattle.perf_base.specs.Configuration.{Configuration};
 ghost use Rattle.perf_base.specs.Order.{Order};
 ghost use Rattle.perf_flat.specs.Flat.{IsFlat};
+ghost use Rattle.perf_records.specs.Records as records;
+ghost use Rattle.perf_types.specs.Comm.{CommValue};
+ghost use Rattle.perf_types.specs.KSymbol.{KSymbolValue};
+ghost use Rattle.perf_types.specs.Mmap.{MmapValue};
+ghost use Rattle.perf_types.specs.Mmap2.{Mmap2Value};
+ghost use Rattle.perf_types.specs.declared.numbers.Exit as tasks;
+ghost use Rattle.perf_history.specs.declared.changes.Change.TheVariants as change;
 ghost use Rattle.perf_walk.specs.Changes as changes;
-ghost use Rattle.perf_walk.specs.Plain.{plain};
+ghost use Rattle.perf_walk.specs.Contents.{HasContents};
+ghost use Rattle.perf_walk.specs.Plain.{plain, plain_identity};
 
-use crate::parts::{bytes_at, short_number};
+use crate::parts::{number, short_number, string};
 use perf_base::sys::{
     PERF_RECORD_COMM, PERF_RECORD_FORK, PERF_RECORD_KSYMBOL, PERF_RECORD_MMAP, PERF_RECORD_MMAP2,
 };
@@ -32,15 +40,21 @@ pub fn change_in<'p>(bytes: &'p [u8], frame: &FlatFrame) -> Option<Change<'p>>
 }
 
 // The name of a thread, in a COMM.
-fn comm_in<'p>(bytes: &'p [u8], frame: &FlatFrame) -> Comm<'p> {
+fn comm_in<'p>(bytes: &'p [u8], frame: &FlatFrame) -> Comm<'p>
+    ensures { (r : CommValue) → HasContents bytes.now frame.now (records.comm_is r) →
+        plain (change.Comm result.entry) ≡ changes.comm_change r }
+{
     Comm {
         tid: short_number(frame, 1),
-        name: bytes_at(bytes, frame.spans[0]),
+        name: string(bytes, frame, 0),
     }
 }
 
 // A thread, in a FORK.
-fn fork_in(frame: &FlatFrame) -> Fork {
+fn fork_in(frame: &FlatFrame) -> Fork
+    ensures { (bytes : List ℕ) (r : tasks.Exit) → HasContents bytes frame.now (records.fork_is r) →
+        change.Fork result ≡ changes.fork_change frame.now.misc r }
+{
     Fork {
         pid: short_number(frame, 0),
         ppid: short_number(frame, 1),
@@ -51,52 +65,73 @@ fn fork_in(frame: &FlatFrame) -> Fork {
 }
 
 // A mapping, in an MMAP.
-fn mmap_in<'p>(bytes: &'p [u8], frame: &FlatFrame) -> Map<'p> {
+fn mmap_in<'p>(bytes: &'p [u8], frame: &FlatFrame) -> Map<'p>
+    ensures { (r : MmapValue) → HasContents bytes.now frame.now (records.mmap_is r) →
+        plain (change.Map result.entry) ≡ changes.mmap_change frame.now.misc r }
+{
     Map {
         pid: short_number(frame, 0),
         mode: Mode::of_misc(frame.misc),
-        start: frame.numbers[2],
-        len: frame.numbers[3],
-        offset: frame.numbers[4],
-        file: bytes_at(bytes, frame.spans[0]),
+        start: number(frame, 2),
+        len: number(frame, 3),
+        offset: number(frame, 4),
+        file: string(bytes, frame, 0),
         identity: Identity::Unknown,
         executable: frame.misc / (1 << 13) % 2 == 0,
     }
 }
 
-// Which file is mapped, in an MMAP2.
-fn identity_in<'p>(bytes: &'p [u8], frame: &FlatFrame) -> Identity<'p> {
-    if frame.misc / (1 << 14) % 2 == 1 {
-        return Identity::BuildId(bytes_at(bytes, frame.spans[1]));
-    }
-    Identity::Inode(Inode {
+// The inode of a file, in an MMAP2.
+fn inode_in(frame: &FlatFrame) -> Inode
+    ensures { (bytes : List ℕ) (r : Mmap2Value) → HasContents bytes frame.now (records.mmap2_is r) →
+        result ≡ changes.inode_of r.detail }
+{
+    Inode {
         major: short_number(frame, 7),
         minor: short_number(frame, 8),
-        number: frame.numbers[9],
-        generation: frame.numbers[10],
-    })
+        number: number(frame, 9),
+        generation: number(frame, 10),
+    }
+}
+
+// Which file is mapped, in an MMAP2.
+fn identity_in<'p>(bytes: &'p [u8], frame: &FlatFrame) -> Identity<'p>
+    ensures { (r : Mmap2Value) → HasContents bytes.now frame.now (records.mmap2_is r) →
+        plain_identity result.entry ≡ changes.identity_of frame.now.misc r.detail }
+{
+    if frame.misc / (1 << 14) % 2 == 1 {
+        Identity::BuildId(string(bytes, frame, 1))
+    } else {
+        Identity::Inode(inode_in(frame))
+    }
 }
 
 // A mapping, in an MMAP2.
-fn mmap2_in<'p>(bytes: &'p [u8], frame: &FlatFrame) -> Map<'p> {
+fn mmap2_in<'p>(bytes: &'p [u8], frame: &FlatFrame) -> Map<'p>
+    ensures { (r : Mmap2Value) → HasContents bytes.now frame.now (records.mmap2_is r) →
+        plain (change.Map result.entry) ≡ changes.mmap2_change frame.now.misc r }
+{
     Map {
         pid: short_number(frame, 0),
         mode: Mode::of_misc(frame.misc),
-        start: frame.numbers[2],
-        len: frame.numbers[3],
-        offset: frame.numbers[4],
-        file: bytes_at(bytes, frame.spans[0]),
+        start: number(frame, 2),
+        len: number(frame, 3),
+        offset: number(frame, 4),
+        file: string(bytes, frame, 0),
         identity: identity_in(bytes, frame),
-        executable: frame.numbers[5] / 4 % 2 == 1,
+        executable: number(frame, 5) / 4 % 2 == 1,
     }
 }
 
 // A symbol of the kernel, in a KSYMBOL.
-fn symbol_in<'p>(bytes: &'p [u8], frame: &FlatFrame) -> Symbol<'p> {
+fn symbol_in<'p>(bytes: &'p [u8], frame: &FlatFrame) -> Symbol<'p>
+    ensures { (r : KSymbolValue) → HasContents bytes.now frame.now (records.ksymbol_is r) →
+        plain (change.Symbol result.entry) ≡ changes.symbol_change r }
+{
     Symbol {
-        start: frame.numbers[0],
-        len: frame.numbers[1],
-        name: bytes_at(bytes, frame.spans[0]),
-        removed: frame.numbers[3] % 2 == 1,
+        start: number(frame, 0),
+        len: number(frame, 1),
+        name: string(bytes, frame, 0),
+        removed: number(frame, 3) % 2 == 1,
     }
 }

@@ -2,20 +2,45 @@
 
 ghost use Rattle.std.specs.Prelude.{◌≡◌, ◌<◌, get_or, max, take};
 ghost use Rattle.perf_flat.specs.Arrays.{low_u32};
+ghost use Rattle.perf_flat.specs.Strings.{span_at};
 ghost use Rattle.perf_walk.specs.Parts.{bytes_at};
 
 use perf_flat::frame::{FlatFrame, Span};
+
+// A number of a frame.
+pub(crate) fn number(frame: &FlatFrame, index: usize) -> u64
+    requires { index < 24 }
+    ensures { result ≡ get_or frame.now.numbers index 0 }
+{
+    frame.numbers[index]
+}
 
 // A number of a frame, of 32 bits.
 pub(crate) fn short_number(frame: &FlatFrame, index: usize) -> u32
     requires { index < 24 }
     ensures { result ≡ low_u32 (get_or frame.now.numbers index 0) }
 {
-    (frame.numbers[index] % (1 << 32)) as u32
+    (number(frame, index) % (1 << 32)) as u32
 }
 
-/// The bytes of a frame at a span of it. None, if the span is of another frame and not inside this
-/// one.
+// A span of a frame.
+fn span(frame: &FlatFrame, index: usize) -> Span
+    requires { index < 8 }
+    ensures { result ≡ span_at frame.now.spans index }
+{
+    frame.spans[index]
+}
+
+// The bytes at a span of a frame.
+pub(crate) fn string<'p>(bytes: &'p [u8], frame: &FlatFrame, index: usize) -> &'p [u8]
+    requires { index < 8 }
+    ensures { result.now ≡ bytes_at bytes.now (span_at frame.now.spans index) }
+{
+    bytes_at(bytes, span(frame, index))
+}
+
+/// The bytes of a frame at a span of it. There are none if the span is not inside the frame, as that
+/// of another frame may be.
 pub fn bytes_at(bytes: &[u8], span: Span) -> &[u8]
     ensures { result.now ≡ bytes_at bytes.now span }
 {

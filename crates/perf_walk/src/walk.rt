@@ -1,11 +1,10 @@
 //! A walk through the frames of a recording.
 
-ghost use Rattle.std.specs.Prelude.{◌≡◌, List, []};
-ghost use Rattle.perf_file.specs.Views.{view};
-ghost use Rattle.perf_history.specs.declared.changes.Change.{Change};
+ghost use Rattle.std.specs.Prelude.{◌≡◌, List, [], OnErr, OnOk, option_map};
+ghost use Rattle.std.specs.List.{cons_option};
+ghost use Rattle.perf_history.specs.declared.changes.Change as changes;
 ghost use Rattle.perf_walk.specs.Moments.{event_of};
-ghost use Rattle.perf_walk.specs.Plain.{IsPast};
-ghost use Rattle.perf_walk.specs.Steps.{Steps};
+ghost use Rattle.perf_walk.specs.Plain.{IsPast, plain};
 
 use crate::changing::change_in;
 use crate::parts::first_frame;
@@ -13,7 +12,7 @@ use perf_file::listing::left_at;
 use perf_file::{Entry, Owner, Recording};
 use perf_flat::frame::{FlatFrame, NUMBERS, SPANS, Span};
 use perf_flat::read::read_into;
-use perf_history::History;
+use perf_history::{Change, History, Mode, Name, Place};
 use std::alloc::{AllocError, Global};
 
 /// A walk through the frames of a recording, in any order: what is known of threads and memory is
@@ -68,7 +67,26 @@ fn event_of(owner: Owner) -> usize
     }
 }
 
+// Applies what a frame states, if it does. Out of memory what is known is as before.
+fn apply<'p>(history: &mut History<'p>, change: Option<Change<'p>>) -> Result<(), AllocError>
+    ensures ok { OnOk result ((older : List changes.Change) → IsPast history.old older →
+        IsPast history.new (cons_option (option_map plain change.entry) older)) }
+    ensures err { OnErr result ((older : List changes.Change) → IsPast history.old older →
+        IsPast history.new older) }
+{
+    match change {
+        Some(change) => history.apply(change),
+        None => Ok(()),
+    }
+}
+
 impl<'a, 'p> Walk<'a, 'p> {
+    ghost use Rattle.perf_file.specs.Views.{view};
+    ghost use Rattle.perf_history.specs.Histories.{name_of, place_of};
+    ghost use Rattle.perf_history.specs.declared.changes.Change.{Change};
+    ghost use Rattle.perf_walk.specs.Plain.{plain_name, plain_place};
+    ghost use Rattle.perf_walk.specs.Steps.{Reads, Steps};
+
     /// A walk before its first step. Nothing is known then.
     pub fn new(alloc: Global, recording: &'a Recording<'p>) -> Walk<'a, 'p>
         ensures recording { result.recording ≡ recording }
@@ -94,9 +112,8 @@ impl<'a, 'p> Walk<'a, 'p> {
         let Some(bytes) = self.read(entry) else {
             return Ok(None);
         };
-        if let Some(change) = change_in(bytes, &self.frame) {
-            self.history.apply(change)?;
-        }
+        let change = change_in(bytes, &self.frame);
+        apply(&mut self.history, change)?;
         Ok(Some(Found {
             bytes,
             event: event_of(entry.owner),
@@ -104,7 +121,11 @@ impl<'a, 'p> Walk<'a, 'p> {
     }
 
     // Reads the frame of an entry.
-    fn read(&mut self, entry: &Entry) -> Option<&'p [u8]> {
+    fn read(&mut self, entry: &Entry) -> Option<&'p [u8]>
+        ensures found { Reads (view self.old.recording.now) entry.now result self.new.frame }
+        ensures history { self.new.history ≡ self.old.history }
+        ensures recording { self.new.recording ≡ self.old.recording }
+    {
         let recording = self.recording;
         let config = recording.config(entry.owner)?;
         let bytes = left_at(recording, entry.at)?;
@@ -131,5 +152,21 @@ impl<'a, 'p> Walk<'a, 'p> {
         ensures { result.now ≡ self.now.history }
     {
         &self.history
+    }
+
+    /// The name of a thread by then.
+    pub fn comm(&self, tid: u32) -> Name<'p>
+        ensures { (known : List Change) → IsPast self.now.history known →
+            plain_name result.entry ≡ name_of known tid }
+    {
+        self.history.comm(tid)
+    }
+
+    /// What is mapped by then at an address at which a process runs code in this mode.
+    pub fn place(&self, pid: u32, mode: Mode, address: u64) -> Option<Place<'p>>
+        ensures { (known : List Change) → IsPast self.now.history known →
+            option_map plain_place result.entry ≡ place_of known pid mode address }
+    {
+        self.history.place(pid, mode, address)
     }
 }

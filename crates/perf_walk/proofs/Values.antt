@@ -1,0 +1,159 @@
+-- The record in a frame, by the type that was read.
+use Rattle.std.proofs.Common.{◌≡◌, ℕ, zero, suc, ◌+◌, ◌-◌, ◌==◌, Bool, true, false, List, [], ◌∷◌, length, drop, refl, sym, ◌∙◌, ap, subst, if◌then◌else◌}
+use Rattle.std.specs.Prelude.{Option, Some, None, Result, Ok, Err, nat_lt}
+use Rattle.std.proofs.lemmas.Bool.{eqb-true}
+use Rattle.perf_base.specs.Configuration.{Configuration, under_misc}
+use Rattle.perf_base.specs.Header.{header_of}
+use Rattle.perf_base.specs.Layout.{Parts, done, part, check, map_parts, value, layout, spots, first_refusal, size, shape_value, slice}
+use Rattle.perf_base.specs.Order.{Order}
+use Rattle.perf_base.specs.declared.error.ErrorKind.{ErrorKind}
+use Rattle.perf_base.specs.declared.error.ErrorKind.TheVariants.{Eof}
+use Rattle.perf_base.specs.declared.sys.perf_event_header.{perf_event_header}
+use Rattle.perf_flat.specs.Flat.{read_type}
+use Rattle.perf_records.specs.Answers.{FrameParts, answer_of_frame, answer_after, record_in, split_after}
+use Rattle.perf_records.specs.Bodies.{body, body_of_type, unread}
+use Rattle.perf_records.specs.Records.{RecordValue}
+use Rattle.perf_records.specs.Records as records
+use Rattle.perf_records.specs.RecordTypes.{type_of}
+use Rattle.perf_records.specs.declared.record_type.RecordType.{RecordType}
+use Rattle.perf_records.specs.declared.record_type.RecordType.TheVariants as type
+use Rattle.perf_history.specs.declared.changes.Change.{Change}
+use Rattle.perf_walk.specs.Changes.{change_in}
+
+-- the value of parts to which a function is applied
+pub mapped_value : {A B : Type 0} (o : Order) (body : List ℕ) (s : ℕ) (f : A → B) (p : Parts A) → value o body s (map_parts f p) ≡ f (value o body s p)
+mapped_value o body s f (done v) = refl
+mapped_value o body s f (part shape k) =
+    mapped_value o body (s + size shape (length body - s)) f (k (shape_value o shape (slice body s (size shape (length body - s)))))
+mapped_value o body s f (check t e p) = mapped_value o body s f p
+
+laid_value : {A : Type 0} (r : Option ErrorKind) (w v : A) → (elim r [ None ↦ Ok w | Some e ↦ Err e ]) ≡ Ok v → v ≡ w
+laid_value None w v e = cc
+laid_value (Some k) w v e = absurd (cc)
+
+-- the value of a layout
+pub layout_value : {A : Type 0} (o : Order) (p : Parts A) (bytes : List ℕ) (v : A) → layout o p bytes ≡ Ok v → v ≡ value o bytes 0 p
+layout_value o p bytes v e = laid_value (first_refusal (length bytes) (spots o bytes 0 p)) (value o bytes 0 p) v e
+
+-- the record in a frame is the value of the layout of its type
+record_value_in : (c : Configuration) (o : Order) (h : perf_event_header) (split : Result FrameParts ErrorKind) (v : RecordValue) → record_in c o h split ≡ Ok v
+    → (bytes : List ℕ) × (v ≡ value o bytes 0 (body (under_misc h.misc c) h.type_))
+record_value_in c o h (Ok parts) v e = (parts.body, layout_value o (body (under_misc h.misc c) h.type_) parts.body v e)
+record_value_in c o h (Err k) v e = absurd (cc)
+
+answer_value_if : (b : Bool) (c : Configuration) (o : Order) (h : perf_event_header) (after : List ℕ) (v : RecordValue) → (if b then Err Eof else answer_after c o h after) ≡ Ok v
+    → (bytes : List ℕ) × (v ≡ value o bytes 0 (body (under_misc h.misc c) h.type_))
+answer_value_if true c o h after v e = absurd (cc)
+answer_value_if false c o h after v e = record_value_in c o h (split_after c o h after) v e
+
+pub answer_value : (c : Configuration) (o : Order) (frame : List ℕ) (v : RecordValue) → answer_of_frame c o frame ≡ Ok v
+    → (bytes : List ℕ) × (v ≡ value o bytes 0 (body (under_misc (header_of o frame).misc c) (header_of o frame).type_))
+answer_value c o frame v e = answer_value_if (nat_lt (length frame) 8) c o (header_of o frame) (drop 8 frame) v e
+
+-- ---- types
+
+-- the type that is read is the type of the header, unless it is 0
+read_if : (t : Option RecordType) (ty n : ℕ) → (elim t [ Some known ↦ ty | None ↦ 0 ]) ≡ suc n → ty ≡ suc n
+read_if (Some known) ty n e = e
+read_if None ty n e = absurd (cc)
+
+pub read_is : (ty n : ℕ) → read_type ty ≡ suc n → ty ≡ suc n
+read_is ty n e = read_if (type_of ty) ty n e
+
+-- the number of each type
+number_of : RecordType → ℕ
+number_of type.Mmap = 1
+number_of type.Lost = 2
+number_of type.Comm = 3
+number_of type.Exit = 4
+number_of type.Throttle = 5
+number_of type.Unthrottle = 6
+number_of type.Fork = 7
+number_of type.Read = 8
+number_of type.Sample = 9
+number_of type.Mmap2 = 10
+number_of type.Aux = 11
+number_of type.ITraceStart = 12
+number_of type.LostSamples = 13
+number_of type.Switch = 14
+number_of type.SwitchCpuWide = 15
+number_of type.Namespaces = 16
+number_of type.KSymbol = 17
+number_of type.BpfEvent = 18
+number_of type.CGroup = 19
+number_of type.TextPoke = 20
+number_of type.AuxOutputHwId = 21
+
+-- the number is that of the type, if there is one
+IsTyped : ℕ → Option RecordType → Type 0
+IsTyped ty (Some k) = ty ≡ number_of k
+IsTyped ty None = Unit {0}
+
+typed_if : (b : Bool) (ty : ℕ) (k : RecordType) (rest : Option RecordType) → (b ≡ true → ty ≡ number_of k) → IsTyped ty rest → IsTyped ty (if b then Some k else rest)
+typed_if true ty k rest yes others = yes refl
+typed_if false ty k rest yes others = others
+
+typed : (ty : ℕ) → IsTyped ty (type_of ty)
+typed ty =
+    typed_if (ty == 1) ty type.Mmap _ (eqb-true ty 1)
+    (typed_if (ty == 2) ty type.Lost _ (eqb-true ty 2)
+    (typed_if (ty == 3) ty type.Comm _ (eqb-true ty 3)
+    (typed_if (ty == 4) ty type.Exit _ (eqb-true ty 4)
+    (typed_if (ty == 5) ty type.Throttle _ (eqb-true ty 5)
+    (typed_if (ty == 6) ty type.Unthrottle _ (eqb-true ty 6)
+    (typed_if (ty == 7) ty type.Fork _ (eqb-true ty 7)
+    (typed_if (ty == 8) ty type.Read _ (eqb-true ty 8)
+    (typed_if (ty == 9) ty type.Sample _ (eqb-true ty 9)
+    (typed_if (ty == 10) ty type.Mmap2 _ (eqb-true ty 10)
+    (typed_if (ty == 11) ty type.Aux _ (eqb-true ty 11)
+    (typed_if (ty == 12) ty type.ITraceStart _ (eqb-true ty 12)
+    (typed_if (ty == 13) ty type.LostSamples _ (eqb-true ty 13)
+    (typed_if (ty == 14) ty type.Switch _ (eqb-true ty 14)
+    (typed_if (ty == 15) ty type.SwitchCpuWide _ (eqb-true ty 15)
+    (typed_if (ty == 16) ty type.Namespaces _ (eqb-true ty 16)
+    (typed_if (ty == 17) ty type.KSymbol _ (eqb-true ty 17)
+    (typed_if (ty == 18) ty type.BpfEvent _ (eqb-true ty 18)
+    (typed_if (ty == 19) ty type.CGroup _ (eqb-true ty 19)
+    (typed_if (ty == 20) ty type.TextPoke _ (eqb-true ty 20)
+    (typed_if (ty == 21) ty type.AuxOutputHwId _ (eqb-true ty 21) tt))))))))))))))))))))
+
+-- the value of the parts of a record that states nothing
+mapped_none : {A : Type 0} (misc : ℕ) (o : Order) (bytes : List ℕ) (f : A → RecordValue) → ((a : A) → change_in misc (f a) ≡ None) → (p : Parts A)
+    → change_in misc (value o bytes 0 (map_parts f p)) ≡ None
+mapped_none misc o bytes f none p = ap (change_in misc) (mapped_value o bytes 0 f p) ∙ none (value o bytes 0 p)
+
+-- the type is none of those that state something
+pub record IsOther (n : ℕ) : Type 0 where
+  pub mmap : n ≡ 1 → ⊥
+  pub comm : n ≡ 3 → ⊥
+  pub fork : n ≡ 7 → ⊥
+  pub mmap2 : n ≡ 10 → ⊥
+  pub ksymbol : n ≡ 17 → ⊥
+
+other_value : (misc : ℕ) (c : Configuration) (o : Order) (bytes : List ℕ) (ty : ℕ) (t : Option RecordType) → IsTyped ty t → IsOther (elim t [ Some known ↦ ty | None ↦ 0 ])
+    → change_in misc (value o bytes 0 (body_of_type c ty t)) ≡ None
+other_value misc c o bytes ty (Some type.Mmap) is n = absurd (n.mmap is)
+other_value misc c o bytes ty (Some type.Lost) is n = mapped_none misc o bytes records.lost_is (λ _. refl) _
+other_value misc c o bytes ty (Some type.Comm) is n = absurd (n.comm is)
+other_value misc c o bytes ty (Some type.Exit) is n = mapped_none misc o bytes records.exit_is (λ _. refl) _
+other_value misc c o bytes ty (Some type.Throttle) is n = mapped_none misc o bytes records.throttle_is (λ _. refl) _
+other_value misc c o bytes ty (Some type.Unthrottle) is n = mapped_none misc o bytes records.unthrottle_is (λ _. refl) _
+other_value misc c o bytes ty (Some type.Fork) is n = absurd (n.fork is)
+other_value misc c o bytes ty (Some type.Read) is n = mapped_none misc o bytes records.read_is (λ _. refl) _
+other_value misc c o bytes ty (Some type.Sample) is n = mapped_none misc o bytes records.sample_is (λ _. refl) _
+other_value misc c o bytes ty (Some type.Mmap2) is n = absurd (n.mmap2 is)
+other_value misc c o bytes ty (Some type.Aux) is n = mapped_none misc o bytes records.aux_is (λ _. refl) _
+other_value misc c o bytes ty (Some type.ITraceStart) is n = mapped_none misc o bytes records.itrace_start_is (λ _. refl) _
+other_value misc c o bytes ty (Some type.LostSamples) is n = mapped_none misc o bytes records.lost_samples_is (λ _. refl) _
+other_value misc c o bytes ty (Some type.Switch) is n = refl
+other_value misc c o bytes ty (Some type.SwitchCpuWide) is n = mapped_none misc o bytes records.switch_cpu_wide_is (λ _. refl) _
+other_value misc c o bytes ty (Some type.Namespaces) is n = mapped_none misc o bytes records.namespaces_is (λ _. refl) _
+other_value misc c o bytes ty (Some type.KSymbol) is n = absurd (n.ksymbol is)
+other_value misc c o bytes ty (Some type.BpfEvent) is n = mapped_none misc o bytes records.bpf_event_is (λ _. refl) _
+other_value misc c o bytes ty (Some type.CGroup) is n = mapped_none misc o bytes records.cgroup_is (λ _. refl) _
+other_value misc c o bytes ty (Some type.TextPoke) is n = mapped_none misc o bytes records.text_poke_is (λ _. refl) _
+other_value misc c o bytes ty (Some type.AuxOutputHwId) is n = mapped_none misc o bytes records.aux_output_hw_id_is (λ _. refl) _
+other_value misc c o bytes ty None is n = mapped_none misc o bytes (records.unknown_is ty) (λ _. refl) _
+
+pub other_type : (misc : ℕ) (c : Configuration) (o : Order) (bytes : List ℕ) (ty : ℕ) → IsOther (read_type ty) → change_in misc (value o bytes 0 (body c ty)) ≡ None
+other_type misc c o bytes ty n = other_value misc c o bytes ty (type_of ty) (typed ty) n
