@@ -1,0 +1,5 @@
+pub mod PlainText
+pub mod Fields
+pub mod Naming
+pub mod InTurn
+pub mod IdTables

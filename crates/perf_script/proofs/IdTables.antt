@@ -1,0 +1,14 @@
+-- The events of ids, in tables one after another.
+use Rattle.std.proofs.Common.{◌≡◌, ℕ, Bool, ◌==◌, true, false, List, [], ◌∷◌, ◌++◌, map, refl, sym, ◌∙◌, ap}
+use Rattle.std.specs.Prelude.{Option, Some, None, if◌then◌else◌}
+use Rattle.perf_file.specs.IdTables.{event_of}
+use Rattle.perf_file.specs.declared.ids.IdOfEvent.{IdOfEvent}
+use Rattle.perf_script.specs.Ids.{event_or}
+
+if_alike : {A : Type 0} (b : Bool) (x y z : A) → y ≡ z → (if b then x else y) ≡ (if b then x else z)
+if_alike b x y z e = ap (λ w. if b then x else w) e
+
+-- the event of an id in two tables
+pub event_append : (xs ys : List IdOfEvent) (id : ℕ) → event_of (xs ++ ys) id ≡ event_or xs id (event_of ys id)
+event_append [] ys id = refl
+event_append (x ∷ xs) ys id = if_alike (x.id == id) (Some x.event) (event_of (xs ++ ys) id) (event_or xs id (event_of ys id)) (event_append xs ys id)
