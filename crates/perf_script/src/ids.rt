@@ -1,10 +1,10 @@
 //! The events that ids belong to.
 
-ghost use Rattle.std.specs.Prelude.{◌≡◌, ℕ, IfOk};
-ghost use Rattle.perf_file.specs.IdTables.{event_of};
+ghost use Rattle.std.specs.Prelude.{◌≡◌, ℕ, IfOk, OnOk};
+ghost use Rattle.perf_file.specs.IdTables.{event_of, ids_of};
 ghost use Rattle.perf_file.specs.Opened.{table_of};
 ghost use Rattle.perf_file.specs.Views.{view};
-ghost use Rattle.perf_script.specs.Ids.{finds};
+ghost use Rattle.perf_script.specs.Ids.{Adds, finds};
 
 use perf_file::{Event, Recording};
 use std::alloc::{AllocError, Global};
@@ -21,7 +21,9 @@ fn add_ids(
     events: &mut BTreeMap<u64, usize>,
     event: usize,
     ids: &[u64],
-) -> Result<(), AllocError> {
+) -> Result<(), AllocError>
+    ensures { OnOk result (Adds (ids_of event ids.now) events.old events.new) }
+{
     let mut left = ids.len();
     while left > 0 {
         left -= 1;
