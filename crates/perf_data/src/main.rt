@@ -20,6 +20,7 @@ use clap::{Arg, ArgAction, ArgMatches, Command};
 use perf_data_text::run::{Show, run, status_after};
 use perf_file::OpenError;
 use perf_lines::outcome::Outcome;
+use perf_script::write_script;
 use std::alloc::{AllocError, Global};
 use std::io::{IsTerminal, Read};
 use std::process::ExitCode;
@@ -81,8 +82,16 @@ fn program<'a>(alloc: Global) -> Result<Command<'a>, AllocError> {
         .disable_help_subcommand(true)
         .subcommand(events)?
         .subcommand(dump)?
+        .subcommand(script_words(alloc)?)?
         .subcommand(folding::fold_words(alloc)?)?
         .subcommand(folding::flame_words(alloc)?)
+}
+
+// The words of `script`.
+fn script_words<'a>(alloc: Global) -> Result<Command<'a>, AllocError> {
+    Command::new(alloc, "script")
+        .about("Prints the samples by time, as `perf script` does")
+        .arg(file_word(alloc))
 }
 
 // The word for the file.
@@ -133,7 +142,11 @@ fn show_file(rt: &HostRuntime, command: &str, words: &ArgMatches<'_>) -> io::Res
     let bytes = bytes_of(rt, path)?;
     note_progress(rt, path, bytes.len())?;
     let mut output = rt.stdout();
-    let ended = run(rt.alloc(), &bytes, &mut output, shown(command, words));
+    let ended = if command == "script" {
+        write_script(rt.alloc(), &bytes, &mut output)
+    } else {
+        run(rt.alloc(), &bytes, &mut output, shown(command, words))
+    };
     report(rt, path, &ended)?;
     Ok(status_after(&ended))
 }

@@ -57,12 +57,17 @@ nine c o frame s f is e false no =
     let none : sample_of c o frame ≡ None = of_no_sample c o frame f is other in
     absurd (cc)
 
+-- and so has its header
+pub type_nine : (c : Configuration) (o : Order) (frame : List ℕ) (s : SampleValue) (f : FlatFrame) → IsFlat c o frame f → sample_of c o frame ≡ Some s → f.type_ ≡ 9
+type_nine c o frame s f is e =
+    let states = (flat_record c o frame (sample_is s) f is (answer_is c o frame s e)).1.0 in
+    read_is f.type_ 8 (sym states.read ∙ nine c o frame s f is e (f.read == 9) refl)
+
 -- which fields it has
 pub fields_of : (c : Configuration) (o : Order) (frame : List ℕ) (s : SampleValue) (f : FlatFrame) → IsFlat c o frame f → sample_of c o frame ≡ Some s → f.present ≡ sample_present c
 fields_of c o frame s f is e =
     let states = (flat_record c o frame (sample_is s) f is (answer_is c o frame s e)).1.0 in
-    let type : f.type_ ≡ 9 = read_is f.type_ 8 (sym states.read ∙ nine c o frame s f is e (f.read == 9) refl) in
-    states.present ∙ ap (present_of c) type
+    states.present ∙ ap (present_of c) (type_nine c o frame s f is e)
 
 -- ---- refusals
 

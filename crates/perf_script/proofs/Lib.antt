@@ -3,3 +3,4 @@ pub mod Fields
 pub mod Naming
 pub mod InTurn
 pub mod IdTables
+pub mod Groups

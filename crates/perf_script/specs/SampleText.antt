@@ -10,10 +10,11 @@ use Rattle.perf_script.specs.Threads.{name_column}
 use Rattle.perf_script.specs.Files.{place_column}
 use Rattle.perf_script.specs.Chains.{call_lines}
 
--- What is shown of a sample: which fields it has, by the bits of a sample type, their values, and the
--- calls of its chain.
+-- What is shown of a sample: which fields it has, by the bits of a sample type, whether it was taken in
+-- a guest, its values, and the calls of its chain.
 pub record Shown : Type 0 where
   pub fields : ℕ
+  pub guest : Bool
   pub sample : Sample
   pub calls : List Call
 
@@ -62,7 +63,11 @@ code_columns known s = if has_bit s.fields 5 then chain_lines known s else addre
 abbrev pub code_columns_if : List Change → Shown → List ℕ
 code_columns_if known s = text_if (has_bit s.fields 0) (code_columns known s)
 
--- the text of a sample with the label of its event, and a period
-abbrev pub sample_text : (label : List ℕ) → (period : ℕ) → List Change → Shown → List ℕ
-sample_text label period known s =
+-- the text of a sample of the machine itself, with the label of its event, and a period
+abbrev pub own_text : (label : List ℕ) → (period : ℕ) → List Change → Shown → List ℕ
+own_text label period known s =
     head_columns known s ++ (period_column period ++ (label ++ (code_columns_if known s ++ codes "\n")))
+
+-- the text of a sample: those of guests have none
+abbrev pub sample_text : (label : List ℕ) → (period : ℕ) → List Change → Shown → List ℕ
+sample_text label period known s = if s.guest then [] else own_text label period known s

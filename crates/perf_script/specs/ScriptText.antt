@@ -1,5 +1,5 @@
 -- The text of a recording.
-use Rattle.std.specs.Prelude.{◌≡◌, ℕ, Bool, List, [], ◌∷◌, ◌++◌, is_err, Option, Some, None, if◌then◌else◌}
+use Rattle.std.specs.Prelude.{◌≡◌, ℕ, ◌%◌, ◌==◌, ◌||◌, Bool, List, [], ◌∷◌, ◌++◌, is_err, Option, Some, None, if◌then◌else◌}
 use Rattle.std.specs.List.{list_any}
 use Rattle.perf_base.specs.Configuration.{Configuration}
 use Rattle.perf_base.specs.Dynamic.{order_of}
@@ -23,9 +23,13 @@ use Rattle.perf_script.specs.Labels.{EventLabel, label_at, labels_by}
 use Rattle.perf_script.specs.SampleText.{Shown, sample_text}
 use Rattle.perf_script.specs.declared.readings.Reading.{Reading}
 
+-- whether a sample was taken in a guest, in its kernel or in a process: modes 4 and 5
+abbrev pub is_guest : (misc : ℕ) → Bool
+is_guest misc = misc % 8 == 4 || misc % 8 == 5
+
 -- what is shown of a sample whose frame has this misc
 abbrev pub shown_of : Configuration → (misc : ℕ) → SampleValue → Shown
-shown_of c misc s = record { fields = sample_present c; sample = sample_view misc s; calls = calls_of s }
+shown_of c misc s = record { fields = sample_present c; guest = is_guest misc; sample = sample_view misc s; calls = calls_of s }
 
 -- the period of a sample: its own, or that of its event
 abbrev pub period_of : EventLabel → Shown → ℕ

@@ -29,8 +29,8 @@ pub record AreEvents (f : File) (labels : List EventLabel) (events : Events) : T
   pub ids : (id : ℕ) → finds events.ids id ≡ event_of (table_of f.events) id
 
 -- what is shown of a sample by the parts that were found
-abbrev pub shown_by : State → (fields : ℕ) → Sample → Shown
-shown_by state fields sample = record { fields = fields; sample = sample; calls = state.calls.items }
+abbrev pub shown_by : State → (fields : ℕ) → (guest : Bool) → Sample → Shown
+shown_by state fields guest sample = record { fields = fields; guest = guest; sample = sample; calls = state.calls.items }
 
 -- the parts of a sample were found
 pub record HasParts (read_format : ℕ) (s : SampleValue) (fields : ℕ) (state : State) : Type 0 where

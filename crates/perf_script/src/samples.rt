@@ -20,6 +20,8 @@ use std::alloc::AllocError;
 pub struct Sampled<'a> {
     /// Which fields it has, `PERF_SAMPLE_*`.
     pub fields: u64,
+    /// Whether it was taken in a guest.
+    pub guest: bool,
     /// Their values.
     pub sample: Sample,
     /// The calls of its chain, the innermost first.
@@ -191,7 +193,26 @@ pub struct Heading<'a> {
     pub period: u64,
 }
 
-/// Appends the text of a sample, with a heading.
+// Appends the text of a sample of the machine itself, with a heading.
+fn push_own(
+    text: &mut Vec<u8>,
+    heading: Heading<'_>,
+    history: &History<'_>,
+    shown: &Sampled<'_>,
+) -> Result<(), AllocError>
+    ensures { (changes : List Change) → IsHistory history.now changes →
+        OnOk result (text.new.items ≡ text.old.items ++ samples.own_text
+        heading.label.now heading.period changes (shown_in shown.now)) }
+{
+    push_head(text, history, shown)?;
+    push_period(text, heading.period)?;
+    text.extend_from_slice(heading.label)?;
+    push_code_if(text, history, shown)?;
+    text.extend_from_slice(b"\n")
+}
+
+/// Appends the text of a sample, with a heading. Those of guests have none, as `perf script` leaves them
+/// out.
 pub fn push_sample(
     text: &mut Vec<u8>,
     heading: Heading<'_>,
@@ -202,9 +223,8 @@ pub fn push_sample(
         OnOk result (text.new.items ≡ text.old.items ++ samples.sample_text
         heading.label.now heading.period changes (shown_in shown.now)) }
 {
-    push_head(text, history, shown)?;
-    push_period(text, heading.period)?;
-    text.extend_from_slice(heading.label)?;
-    push_code_if(text, history, shown)?;
-    text.extend_from_slice(b"\n")
+    if shown.guest {
+        return Ok(());
+    }
+    push_own(text, heading, history, shown)
 }

@@ -227,17 +227,19 @@ fn push_parts(
     event: usize,
     history: &History<'_>,
     fields: u64,
+    guest: bool,
     sample: Sample,
 ) -> Result<(), AllocError>
     ensures { (f : File) (all : List labels.EventLabel) (changes : List Change)
         (older : List Reading) → AreEvents f all events.now → IsHistory history.now changes →
         IsCounted state.old.known older → OnOk result (IsCounted state.new.known
-        (script.read_by older state.old.readings.items (shown_by state.old fields sample))
+        (script.read_by older state.old.readings.items (shown_by state.old fields guest sample))
         × (text.new.items ≡ text.old.items ++ script.shown_text all (table_of f.events) older
-        state.old.readings.items event changes (shown_by state.old fields sample))) }
+        state.old.readings.items event changes (shown_by state.old fields guest sample))) }
 {
     let shown = Sampled {
         fields,
+        guest,
         sample,
         calls: &state.calls,
     };
@@ -250,6 +252,14 @@ fn push_parts(
         history,
         &shown,
     )
+}
+
+// Whether a frame with this `misc` was written in a guest: `PERF_RECORD_MISC_GUEST_KERNEL` or
+// `PERF_RECORD_MISC_GUEST_USER`.
+fn is_guest(misc: u16) -> bool
+    ensures { result ≡ script.is_guest misc }
+{
+    misc % 8 == 4 || misc % 8 == 5
 }
 
 // Appends the text of the sample in a frame, if there is one.
@@ -272,7 +282,16 @@ fn push_found(
         return Ok(());
     };
     find_parts(state, order, found.bytes, frame)?;
-    push_parts(text, events, state, found.event, history, frame.present, sample)
+    push_parts(
+        text,
+        events,
+        state,
+        found.event,
+        history,
+        frame.present,
+        is_guest(frame.misc),
+        sample,
+    )
 }
 
 // A text that grows, and what is known by then.
