@@ -2,8 +2,10 @@
 
 use crate::{bytes_of, file_word};
 use clap::{Arg, ArgAction, ArgMatches, Command};
+use perf_fold::{Choice, Weight, write_fold};
 use perf_folded::{Form, TextError, status_after, write_sum};
 use perf_lines::outcome::Outcome;
+use perf_stacks::Frames;
 use std::alloc::{AllocError, Global};
 use std::io;
 
@@ -12,12 +14,28 @@ pub fn fold_words<'a>(alloc: Global) -> Result<Command<'a>, AllocError> {
     let merge = Arg::new(alloc, "merge")
         .long("merge")
         .action(ArgAction::SetTrue)
-        .required(true)
-        .help("Adds up files of such lines");
-    Command::new(alloc, "fold")
+        .help("Adds up files of such lines, in place of a file of `perf record`");
+    let command = Command::new(alloc, "fold")
         .about("Prints a line for each stack: its frames from the outermost on, and its count")
-        .arg(merge)?
-        .arg(file_word(alloc).num_args(1..))
+        .arg(merge)?;
+    stack_words(alloc, command)?.arg(file_word(alloc).num_args(1..))
+}
+
+// Adds the words that choose what is folded of a file of `perf record`.
+fn stack_words<'a>(alloc: Global, command: Command<'a>) -> Result<Command<'a>, AllocError> {
+    let frames = Arg::new(alloc, "frames")
+        .long("frames")
+        .value_name("NAMES")
+        .value_parser(["offsets", "files"].as_slice())
+        .default_value("offsets")
+        .help("What frames are named by: files and offsets in them, or files alone");
+    let weight = Arg::new(alloc, "weight")
+        .long("weight")
+        .value_name("WEIGHT")
+        .value_parser(["samples", "period"].as_slice())
+        .default_value("samples")
+        .help("What is counted: samples, or their periods");
+    command.arg(frames)?.arg(weight)
 }
 
 /// The words of `flame`.
@@ -25,22 +43,26 @@ pub fn flame_words<'a>(alloc: Global) -> Result<Command<'a>, AllocError> {
     let folded = Arg::new(alloc, "folded")
         .long("folded")
         .action(ArgAction::SetTrue)
-        .required(true)
         .help("FILE has lines of stacks, as `fold` prints them");
     let inverted = Arg::new(alloc, "inverted")
         .long("inverted")
         .action(ArgAction::SetTrue)
         .help("Draws from the innermost frames on");
-    Command::new(alloc, "flame")
+    let command = Command::new(alloc, "flame")
         .about("Prints a flame graph, an SVG")
         .arg(folded)?
-        .arg(inverted)?
-        .arg(file_word(alloc))
+        .arg(inverted)?;
+    stack_words(alloc, command)?.arg(file_word(alloc))
 }
 
-/// Prints the sums of the files that the words of `fold` name, and returns the exit status.
+/// Prints the folded stacks of the file that the words of `fold` name, or the sums of files of such,
+/// and returns the exit status.
 pub fn fold(rt: &HostRuntime, words: &ArgMatches<'_>) -> io::Result<u8> {
-    print_sum(rt, words, Form::Lines)
+    if words.get_flag("merge") {
+        print_sum(rt, words, Form::Lines)
+    } else {
+        print_fold(rt, words, Form::Lines)
+    }
 }
 
 /// Prints the flame graph of the file that the words of `flame` name, and returns the exit status.
@@ -50,7 +72,42 @@ pub fn flame(rt: &HostRuntime, words: &ArgMatches<'_>) -> io::Result<u8> {
     } else {
         Form::Flame
     };
-    print_sum(rt, words, form)
+    if words.get_flag("folded") {
+        print_sum(rt, words, form)
+    } else {
+        print_fold(rt, words, form)
+    }
+}
+
+// How a recording is folded, by the words.
+fn choice(words: &ArgMatches<'_>) -> Choice {
+    Choice {
+        frames: match words.get_str("frames") {
+            Some("files") => Frames::Files,
+            _ => Frames::Offsets,
+        },
+        weight: match words.get_str("weight") {
+            Some("period") => Weight::Period,
+            _ => Weight::Samples,
+        },
+    }
+}
+
+// Prints the folded stacks of a file of `perf record` in a form.
+fn print_fold(rt: &HostRuntime, words: &ArgMatches<'_>, form: Form) -> io::Result<u8> {
+    let Some([path]) = words.get_strs("FILE") else {
+        eprintln!(rt; "perf_data: more than one file, which only `--merge` adds up")?;
+        return Ok(2);
+    };
+    let bytes = bytes_of(rt, path)?;
+    let mut output = rt.stdout();
+    let ended = write_fold(rt.alloc(), &bytes, choice(words), form, &mut output);
+    match &ended {
+        Err(error) => eprintln!(rt; "perf_data: {path}: {error}")?,
+        Ok(Outcome::Stopped) => eprintln!(rt; "perf_data: the output cannot be written")?,
+        Ok(_) => {}
+    }
+    Ok(perf_fold::status_after(&ended))
 }
 
 // Prints the sums of files in a form.

@@ -31,7 +31,7 @@ choose false x y v w e f = f
 
 -- ---- names
 
-lent_name : Option (Bor (List ℕ)) → Option (Bor (List ℕ))
+abbrev lent_name : Option (Bor (List ℕ)) → Option (Bor (List ℕ))
 lent_name name = option_map (λ (b : Bor (List ℕ)). lent b.now) name
 
 names_plain : (changes : List Change) (tid : ℕ) → lent_name (name_after changes tid) ≡ name_after (map plain changes) tid
@@ -56,10 +56,10 @@ name_plain changes tid = named_plain (name_after changes tid) tid ∙ ap (λ n. 
 
 -- ---- places
 
-plain_mapping : Mapping → Mapping
+abbrev plain_mapping : Mapping → Mapping
 plain_mapping m = record m { file = plain_file m.file; identity = plain_identity m.identity }
 
-plain_map : maps.Map → maps.Map
+abbrev plain_map : maps.Map → maps.Map
 plain_map m = record m { file = lent m.file.now; identity = plain_identity m.identity }
 
 file_plain : (m : maps.Map) → plain_file (file_of m) ≡ file_of (plain_map m)
@@ -68,7 +68,7 @@ file_plain m = chosen plain_file (keeps_address m.file.now && m.executable) (fil
 of_map_plain : (m : maps.Map) → plain_mapping (mapping_of m) ≡ mapping_of (plain_map m)
 of_map_plain m = ap (λ f. record (mapping_of m) { file = f; identity = plain_identity m.identity }) (file_plain m)
 
-plain_symbol : symbols.Symbol → symbols.Symbol
+abbrev plain_symbol : symbols.Symbol → symbols.Symbol
 plain_symbol s = record s { name = lent s.name.now }
 
 of_symbol_plain : (s : symbols.Symbol) → option_map plain_mapping (symbol_or_none s) ≡ symbol_or_none (plain_symbol s)

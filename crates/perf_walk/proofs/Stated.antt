@@ -18,7 +18,8 @@ use Rattle.perf_sample_types.specs.SampleId.{SampleIdValue}
 use Rattle.perf_history.specs.declared.changes.Change.{Change}
 use Rattle.perf_walk.specs.Changes.{change_in, change_if, change_of}
 use Rattle.perf_walk.specs.Parts.{bytes_at}
-use Rattle.perf_walk.proofs.Values.{mapped_value, answer_value, read_is, IsOther, other_type}
+use Rattle.perf_walk.specs.Samples.{sample_if, sample_of}
+use Rattle.perf_walk.proofs.Values.{mapped_value, answer_value, read_is, kind_of, body_kind, IsOther, no_change, no_sample}
 
 -- a flat frame of an answer that is a record states that record
 pub states_record : (c : Configuration) (o : Order) (frame : List ℕ) (split : Result FrameParts ErrorKind) (a : Result RecordValue ErrorKind) (v : RecordValue) (f : FlatFrame) → a ≡ Ok v
@@ -62,16 +63,26 @@ of_type {A} n made parts table c o frame f is read = go (answer_of_frame c o fra
       found.1 ∙ ap (λ ty. value o found.0 0 (body under ty)) type ∙ ap (value o found.0 0) (table under) ∙ mapped_value o found.0 0 made (parts under) in
       (value o found.0 0 (parts under), e ∙ ap Ok is_made)
 
+-- the type that was read is that of the record
+kind_read : (c : Configuration) (o : Order) (frame : List ℕ) (v : RecordValue) (f : FlatFrame) → IsFlat c o frame f → answer_of_frame c o frame ≡ Ok v → f.read ≡ kind_of v
+kind_read c o frame v f is e =
+    let h = header_of o frame in
+    let found = answer_value c o frame v e in
+    record_read c o frame v f is e ∙ sym (body_kind (under_misc h.misc c) o found.0 h.type_) ∙ ap kind_of (sym found.1)
+
 -- a frame of another type states nothing
 pub of_other_type : (c : Configuration) (o : Order) (frame : List ℕ) (f : FlatFrame) → IsFlat c o frame f → IsOther f.read → change_of c o frame ≡ None
 of_other_type c o frame f is other = go (answer_of_frame c o frame) refl where
   go : (a : Result RecordValue ErrorKind) → answer_of_frame c o frame ≡ a → change_of c o frame ≡ None
   go (Err k) e = ap (change_if (header_of o frame).misc) e
-  go (Ok v) e =
-      let h = header_of o frame in
-      let found = answer_value c o frame v e in
-      let type = record_read c o frame v f is e in
-      ap (change_if h.misc) e ∙ ap (change_in h.misc) found.1 ∙ other_type h.misc (under_misc h.misc c) o found.0 h.type_ (subst IsOther type other)
+  go (Ok v) e = ap (change_if (header_of o frame).misc) e ∙ no_change (header_of o frame).misc v (subst IsOther (kind_read c o frame v f is e) other)
+
+-- and is no sample
+pub of_no_sample : (c : Configuration) (o : Order) (frame : List ℕ) (f : FlatFrame) → IsFlat c o frame f → (f.read ≡ 9 → ⊥) → sample_of c o frame ≡ None
+of_no_sample c o frame f is other = go (answer_of_frame c o frame) refl where
+  go : (a : Result RecordValue ErrorKind) → answer_of_frame c o frame ≡ a → sample_of c o frame ≡ None
+  go (Err k) e = ap sample_if e
+  go (Ok v) e = ap sample_if e ∙ no_sample v (λ nine. other (kind_read c o frame v f is e ∙ nine))
 
 -- the bytes at a span
 pub bytes_here : (frame : List ℕ) (s : Span) (bytes : List ℕ) → HasBytes frame s bytes → bytes_at frame s ≡ bytes

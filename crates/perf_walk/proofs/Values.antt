@@ -11,14 +11,28 @@ use Rattle.perf_base.specs.declared.error.ErrorKind.TheVariants.{Eof}
 use Rattle.perf_base.specs.declared.sys.perf_event_header.{perf_event_header}
 use Rattle.perf_flat.specs.Flat.{read_type}
 use Rattle.perf_records.specs.Answers.{FrameParts, answer_of_frame, answer_after, record_in, split_after}
-use Rattle.perf_records.specs.Bodies.{body, body_of_type, unread}
+use Rattle.perf_records.specs.Bodies.{body, body_of_type}
 use Rattle.perf_records.specs.Records.{RecordValue}
 use Rattle.perf_records.specs.Records as records
 use Rattle.perf_records.specs.RecordTypes.{type_of}
 use Rattle.perf_records.specs.declared.record_type.RecordType.{RecordType}
 use Rattle.perf_records.specs.declared.record_type.RecordType.TheVariants as type
+use Rattle.perf_base.specs.FieldWords.{all_left}
+use Rattle.perf_types.specs.Mmap.{mmap}
+use Rattle.perf_types.specs.Numbers.{lost, exit, throttle, aux, itrace_start, lost_samples}
+use Rattle.perf_types.specs.Numbers.{bpf_event, aux_output_hw_id}
+use Rattle.perf_types.specs.Comm.{comm}
+use Rattle.perf_types.specs.Read.{read}
+use Rattle.perf_sample_types.specs.Sample.{sample}
+use Rattle.perf_types.specs.Mmap2.{mmap2}
+use Rattle.perf_types.specs.SwitchCpuWide.{switch_cpu_wide}
+use Rattle.perf_types.specs.Namespaces.{namespaces}
+use Rattle.perf_types.specs.KSymbol.{ksymbol}
+use Rattle.perf_types.specs.CGroup.{cgroup}
+use Rattle.perf_types.specs.TextPoke.{text_poke}
 use Rattle.perf_history.specs.declared.changes.Change.{Change}
 use Rattle.perf_walk.specs.Changes.{change_in}
+use Rattle.perf_walk.specs.Samples.{sample_if}
 
 -- the value of parts to which a function is applied
 pub mapped_value : {A B : Type 0} (o : Order) (body : List ℕ) (s : ℕ) (f : A → B) (p : Parts A) → value o body s (map_parts f p) ≡ f (value o body s p)
@@ -27,7 +41,10 @@ mapped_value o body s f (part shape k) =
     mapped_value o body (s + size shape (length body - s)) f (k (shape_value o shape (slice body s (size shape (length body - s)))))
 mapped_value o body s f (check t e p) = mapped_value o body s f p
 
-laid_value : {A : Type 0} (r : Option ErrorKind) (w v : A) → (elim r [ None ↦ Ok w | Some e ↦ Err e ]) ≡ Ok v → v ≡ w
+abbrev laid : {A : Type 0} → Option ErrorKind → A → Result A ErrorKind
+laid r w = elim r [ None ↦ Ok w | Some e ↦ Err e ]
+
+laid_value : {A : Type 0} (r : Option ErrorKind) (w v : A) → laid r w ≡ Ok v → v ≡ w
 laid_value None w v e = cc
 laid_value (Some k) w v e = absurd (cc)
 
@@ -61,7 +78,7 @@ pub read_is : (ty n : ℕ) → read_type ty ≡ suc n → ty ≡ suc n
 read_is ty n e = read_if (type_of ty) ty n e
 
 -- the number of each type
-number_of : RecordType → ℕ
+abbrev number_of : RecordType → ℕ
 number_of type.Mmap = 1
 number_of type.Lost = 2
 number_of type.Comm = 3
@@ -85,13 +102,13 @@ number_of type.TextPoke = 20
 number_of type.AuxOutputHwId = 21
 
 -- the number is that of the type, if there is one
-IsTyped : ℕ → Option RecordType → Type 0
+abbrev IsTyped : ℕ → Option RecordType → Type 0
 IsTyped ty (Some k) = ty ≡ number_of k
 IsTyped ty None = Unit {0}
 
 typed_if : (b : Bool) (ty : ℕ) (k : RecordType) (rest : Option RecordType) → (b ≡ true → ty ≡ number_of k) → IsTyped ty rest → IsTyped ty (if b then Some k else rest)
-typed_if true ty k rest yes others = yes refl
-typed_if false ty k rest yes others = others
+typed_if true ty k rest is others = is refl
+typed_if false ty k rest is others = others
 
 typed : (ty : ℕ) → IsTyped ty (type_of ty)
 typed ty =
@@ -117,12 +134,64 @@ typed ty =
     (typed_if (ty == 20) ty type.TextPoke _ (eqb-true ty 20)
     (typed_if (ty == 21) ty type.AuxOutputHwId _ (eqb-true ty 21) tt))))))))))))))))))))
 
--- the value of the parts of a record that states nothing
-mapped_none : {A : Type 0} (misc : ℕ) (o : Order) (bytes : List ℕ) (f : A → RecordValue) → ((a : A) → change_in misc (f a) ≡ None) → (p : Parts A)
-    → change_in misc (value o bytes 0 (map_parts f p)) ≡ None
-mapped_none misc o bytes f none p = ap (change_in misc) (mapped_value o bytes 0 f p) ∙ none (value o bytes 0 p)
+-- the number of the type of a record, 0 if it is unknown
+abbrev pub kind_of : RecordValue → ℕ
+kind_of (records.mmap_is r) = 1
+kind_of (records.lost_is r) = 2
+kind_of (records.comm_is r) = 3
+kind_of (records.exit_is r) = 4
+kind_of (records.throttle_is r) = 5
+kind_of (records.unthrottle_is r) = 6
+kind_of (records.fork_is r) = 7
+kind_of (records.read_is r) = 8
+kind_of (records.sample_is r) = 9
+kind_of (records.mmap2_is r) = 10
+kind_of (records.aux_is r) = 11
+kind_of (records.itrace_start_is r) = 12
+kind_of (records.lost_samples_is r) = 13
+kind_of records.switch_is = 14
+kind_of (records.switch_cpu_wide_is r) = 15
+kind_of (records.namespaces_is r) = 16
+kind_of (records.ksymbol_is r) = 17
+kind_of (records.bpf_event_is r) = 18
+kind_of (records.cgroup_is r) = 19
+kind_of (records.text_poke_is r) = 20
+kind_of (records.aux_output_hw_id_is r) = 21
+kind_of (records.unknown_is ty bytes) = 0
 
--- the type is none of those that state something
+mapped_kind : {A : Type 0} (o : Order) (bytes : List ℕ) (f : A → RecordValue) (n : ℕ) → ((a : A) → kind_of (f a) ≡ n) → (p : Parts A) → kind_of (value o bytes 0 (map_parts f p)) ≡ n
+mapped_kind o bytes f n is p = ap kind_of (mapped_value o bytes 0 f p) ∙ is (value o bytes 0 p)
+
+value_kind : (c : Configuration) (o : Order) (bytes : List ℕ) (ty : ℕ) (t : Option RecordType) → IsTyped ty t
+    → kind_of (value o bytes 0 (body_of_type c ty t)) ≡ (elim t [ Some known ↦ ty | None ↦ 0 ])
+value_kind c o bytes ty (Some type.Mmap) is = mapped_kind o bytes records.mmap_is 1 (λ _. refl) mmap ∙ sym is
+value_kind c o bytes ty (Some type.Lost) is = mapped_kind o bytes records.lost_is 2 (λ _. refl) lost ∙ sym is
+value_kind c o bytes ty (Some type.Comm) is = mapped_kind o bytes records.comm_is 3 (λ _. refl) comm ∙ sym is
+value_kind c o bytes ty (Some type.Exit) is = mapped_kind o bytes records.exit_is 4 (λ _. refl) exit ∙ sym is
+value_kind c o bytes ty (Some type.Throttle) is = mapped_kind o bytes records.throttle_is 5 (λ _. refl) throttle ∙ sym is
+value_kind c o bytes ty (Some type.Unthrottle) is = mapped_kind o bytes records.unthrottle_is 6 (λ _. refl) throttle ∙ sym is
+value_kind c o bytes ty (Some type.Fork) is = mapped_kind o bytes records.fork_is 7 (λ _. refl) exit ∙ sym is
+value_kind c o bytes ty (Some type.Read) is = mapped_kind o bytes records.read_is 8 (λ _. refl) (read c) ∙ sym is
+value_kind c o bytes ty (Some type.Sample) is = mapped_kind o bytes records.sample_is 9 (λ _. refl) (sample c) ∙ sym is
+value_kind c o bytes ty (Some type.Mmap2) is = mapped_kind o bytes records.mmap2_is 10 (λ _. refl) (mmap2 c) ∙ sym is
+value_kind c o bytes ty (Some type.Aux) is = mapped_kind o bytes records.aux_is 11 (λ _. refl) aux ∙ sym is
+value_kind c o bytes ty (Some type.ITraceStart) is = mapped_kind o bytes records.itrace_start_is 12 (λ _. refl) itrace_start ∙ sym is
+value_kind c o bytes ty (Some type.LostSamples) is = mapped_kind o bytes records.lost_samples_is 13 (λ _. refl) lost_samples ∙ sym is
+value_kind c o bytes ty (Some type.Switch) is = sym is
+value_kind c o bytes ty (Some type.SwitchCpuWide) is = mapped_kind o bytes records.switch_cpu_wide_is 15 (λ _. refl) (switch_cpu_wide c) ∙ sym is
+value_kind c o bytes ty (Some type.Namespaces) is = mapped_kind o bytes records.namespaces_is 16 (λ _. refl) namespaces ∙ sym is
+value_kind c o bytes ty (Some type.KSymbol) is = mapped_kind o bytes records.ksymbol_is 17 (λ _. refl) ksymbol ∙ sym is
+value_kind c o bytes ty (Some type.BpfEvent) is = mapped_kind o bytes records.bpf_event_is 18 (λ _. refl) bpf_event ∙ sym is
+value_kind c o bytes ty (Some type.CGroup) is = mapped_kind o bytes records.cgroup_is 19 (λ _. refl) cgroup ∙ sym is
+value_kind c o bytes ty (Some type.TextPoke) is = mapped_kind o bytes records.text_poke_is 20 (λ _. refl) text_poke ∙ sym is
+value_kind c o bytes ty (Some type.AuxOutputHwId) is = mapped_kind o bytes records.aux_output_hw_id_is 21 (λ _. refl) aux_output_hw_id ∙ sym is
+value_kind c o bytes ty None is = mapped_kind o bytes (records.unknown_is ty) 0 (λ _. refl) all_left
+
+-- the type of the record in a body is the one that was read
+pub body_kind : (c : Configuration) (o : Order) (bytes : List ℕ) (ty : ℕ) → kind_of (value o bytes 0 (body c ty)) ≡ read_type ty
+body_kind c o bytes ty = value_kind c o bytes ty (type_of ty) (typed ty)
+
+-- the type is none of those that state something about threads and memory
 pub record IsOther (n : ℕ) : Type 0 where
   pub mmap : n ≡ 1 → ⊥
   pub comm : n ≡ 3 → ⊥
@@ -130,30 +199,15 @@ pub record IsOther (n : ℕ) : Type 0 where
   pub mmap2 : n ≡ 10 → ⊥
   pub ksymbol : n ≡ 17 → ⊥
 
-other_value : (misc : ℕ) (c : Configuration) (o : Order) (bytes : List ℕ) (ty : ℕ) (t : Option RecordType) → IsTyped ty t → IsOther (elim t [ Some known ↦ ty | None ↦ 0 ])
-    → change_in misc (value o bytes 0 (body_of_type c ty t)) ≡ None
-other_value misc c o bytes ty (Some type.Mmap) is n = absurd (n.mmap is)
-other_value misc c o bytes ty (Some type.Lost) is n = mapped_none misc o bytes records.lost_is (λ _. refl) _
-other_value misc c o bytes ty (Some type.Comm) is n = absurd (n.comm is)
-other_value misc c o bytes ty (Some type.Exit) is n = mapped_none misc o bytes records.exit_is (λ _. refl) _
-other_value misc c o bytes ty (Some type.Throttle) is n = mapped_none misc o bytes records.throttle_is (λ _. refl) _
-other_value misc c o bytes ty (Some type.Unthrottle) is n = mapped_none misc o bytes records.unthrottle_is (λ _. refl) _
-other_value misc c o bytes ty (Some type.Fork) is n = absurd (n.fork is)
-other_value misc c o bytes ty (Some type.Read) is n = mapped_none misc o bytes records.read_is (λ _. refl) _
-other_value misc c o bytes ty (Some type.Sample) is n = mapped_none misc o bytes records.sample_is (λ _. refl) _
-other_value misc c o bytes ty (Some type.Mmap2) is n = absurd (n.mmap2 is)
-other_value misc c o bytes ty (Some type.Aux) is n = mapped_none misc o bytes records.aux_is (λ _. refl) _
-other_value misc c o bytes ty (Some type.ITraceStart) is n = mapped_none misc o bytes records.itrace_start_is (λ _. refl) _
-other_value misc c o bytes ty (Some type.LostSamples) is n = mapped_none misc o bytes records.lost_samples_is (λ _. refl) _
-other_value misc c o bytes ty (Some type.Switch) is n = refl
-other_value misc c o bytes ty (Some type.SwitchCpuWide) is n = mapped_none misc o bytes records.switch_cpu_wide_is (λ _. refl) _
-other_value misc c o bytes ty (Some type.Namespaces) is n = mapped_none misc o bytes records.namespaces_is (λ _. refl) _
-other_value misc c o bytes ty (Some type.KSymbol) is n = absurd (n.ksymbol is)
-other_value misc c o bytes ty (Some type.BpfEvent) is n = mapped_none misc o bytes records.bpf_event_is (λ _. refl) _
-other_value misc c o bytes ty (Some type.CGroup) is n = mapped_none misc o bytes records.cgroup_is (λ _. refl) _
-other_value misc c o bytes ty (Some type.TextPoke) is n = mapped_none misc o bytes records.text_poke_is (λ _. refl) _
-other_value misc c o bytes ty (Some type.AuxOutputHwId) is n = mapped_none misc o bytes records.aux_output_hw_id_is (λ _. refl) _
-other_value misc c o bytes ty None is n = mapped_none misc o bytes (records.unknown_is ty) (λ _. refl) _
+pub no_change : (misc : ℕ) (v : RecordValue) → IsOther (kind_of v) → change_in misc v ≡ None
+no_change misc (records.mmap_is r) n = absurd (n.mmap refl)
+no_change misc (records.comm_is r) n = absurd (n.comm refl)
+no_change misc (records.fork_is r) n = absurd (n.fork refl)
+no_change misc (records.mmap2_is r) n = absurd (n.mmap2 refl)
+no_change misc (records.ksymbol_is r) n = absurd (n.ksymbol refl)
+no_change misc _ n = refl
 
-pub other_type : (misc : ℕ) (c : Configuration) (o : Order) (bytes : List ℕ) (ty : ℕ) → IsOther (read_type ty) → change_in misc (value o bytes 0 (body c ty)) ≡ None
-other_type misc c o bytes ty n = other_value misc c o bytes ty (type_of ty) (typed ty) n
+-- another type is no sample
+pub no_sample : (v : RecordValue) → (kind_of v ≡ 9 → ⊥) → sample_if (Ok v) ≡ None
+no_sample (records.sample_is s) n = absurd (n refl)
+no_sample _ n = refl

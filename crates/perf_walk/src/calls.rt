@@ -1,14 +1,13 @@
 //! The calls of a call chain.
 
-ghost use Rattle.std.specs.Prelude.{◌≡◌, ◌≤◌, ◌++◌, ◌∷◌, ◌/◌, Ok, OnOk, IfOk, ℕ, List, length, take, drop};
+ghost use Rattle.std.specs.Prelude.{◌≡◌, ◌≤◌, ◌++◌, ◌∷◌, ◌/◌, OnOk, IfOk, Some, ℕ, List, length, take, drop};
 ghost use Rattle.perf_base.specs.Configuration.{Configuration};
 ghost use Rattle.perf_base.specs.Dynamic.{order_of};
 ghost use Rattle.perf_base.specs.Layout.{words_of};
 ghost use Rattle.perf_flat.specs.Flat.{IsFlat};
-ghost use Rattle.perf_records.specs.Answers.{answer_of_frame};
-ghost use Rattle.perf_records.specs.Records.{sample_is};
 ghost use Rattle.perf_sample_types.specs.Sample.{SampleValue};
-ghost use Rattle.perf_walk.specs.Calls as calls;
+ghost use Rattle.perf_walk.specs.Calls as chains;
+ghost use Rattle.perf_walk.specs.Samples.{sample_of};
 
 use crate::parts::string;
 use perf_base::Endian;
@@ -37,7 +36,7 @@ const FIRST_MARK: u64 = u64::MAX - 4094;
 
 // The mode after a mark.
 fn mode_after(mark: u64) -> Mode
-    ensures { result ≡ calls.mode_after mark }
+    ensures { result ≡ chains.mode_after mark }
 {
     match mark {
         KERNEL_FOLLOWS => Mode::Kernel,
@@ -48,8 +47,8 @@ fn mode_after(mark: u64) -> Mode
 
 // Appends the call at a number of a chain, unless that is a mark, and returns the mode after it.
 fn push_number(calls: &mut Vec<Call>, mode: Mode, number: u64) -> Result<Mode, AllocError>
-    ensures { IfOk result (λ next. (rest : List ℕ) → calls.new.items ++ calls.calls_in next rest
-        ≡ calls.old.items ++ calls.calls_in mode (number ∷ rest)) }
+    ensures { IfOk result (λ next. (rest : List ℕ) → calls.new.items ++ chains.calls_in next rest
+        ≡ calls.old.items ++ chains.calls_in mode (number ∷ rest)) }
 {
     if number < FIRST_MARK {
         calls.push(Call {
@@ -80,7 +79,7 @@ fn next_number(order: Dynamic, bytes: &[u8]) -> (u64, &[u8])
 /// any other from -4095 on to a mode that is not known.
 pub fn push_chain(calls: &mut Vec<Call>, order: Dynamic, chain: &[u8]) -> Result<(), AllocError>
     ensures { OnOk result (calls.new.items ≡ calls.old.items
-        ++ calls.chain_calls (words_of (order_of order) (length chain.now / 8) chain.now)) }
+        ++ chains.chain_calls (words_of (order_of order) (length chain.now / 8) chain.now)) }
 {
     let count = chain.len() / 8;
     let mut mode = Mode::User;
@@ -102,8 +101,8 @@ pub fn push_calls(
     frame: &FlatFrame,
 ) -> Result<(), AllocError>
     ensures { (c : Configuration) (s : SampleValue) → IsFlat c (order_of order) bytes.now frame.now →
-        answer_of_frame c (order_of order) bytes.now ≡ Ok (sample_is s) →
-        OnOk result (calls.new.items ≡ calls.old.items ++ calls.calls_of s) }
+        sample_of c (order_of order) bytes.now ≡ Some s →
+        OnOk result (calls.new.items ≡ calls.old.items ++ chains.calls_of s) }
 {
     push_chain(calls, order, string(bytes, frame, 0))
 }

@@ -27,7 +27,7 @@ use perf_history::{Change, Comm, Fork, Identity, Inode, Map, Mode, Symbol};
 /// symbol of the kernel. Another frame states nothing about them, and neither does a refused one.
 pub fn change_in<'p>(bytes: &'p [u8], frame: &FlatFrame) -> Option<Change<'p>>
     ensures { (c : Configuration) (o : Order) → IsFlat c o bytes.now frame.now →
-        option_map plain result.entry ≡ changes.change_of c o bytes.now }
+        option_map plain result ≡ changes.change_of c o bytes.now }
 {
     match frame.read {
         PERF_RECORD_MMAP => Some(Change::Map(mmap_in(bytes, frame))),
@@ -42,7 +42,7 @@ pub fn change_in<'p>(bytes: &'p [u8], frame: &FlatFrame) -> Option<Change<'p>>
 // The name of a thread, in a COMM.
 fn comm_in<'p>(bytes: &'p [u8], frame: &FlatFrame) -> Comm<'p>
     ensures { (r : CommValue) → HasContents bytes.now frame.now (records.comm_is r) →
-        plain (change.Comm result.entry) ≡ changes.comm_change r }
+        plain (change.Comm result) ≡ changes.comm_change r }
 {
     Comm {
         tid: short_number(frame, 1),
@@ -67,7 +67,7 @@ fn fork_in(frame: &FlatFrame) -> Fork
 // A mapping, in an MMAP.
 fn mmap_in<'p>(bytes: &'p [u8], frame: &FlatFrame) -> Map<'p>
     ensures { (r : MmapValue) → HasContents bytes.now frame.now (records.mmap_is r) →
-        plain (change.Map result.entry) ≡ changes.mmap_change frame.now.misc r }
+        plain (change.Map result) ≡ changes.mmap_change frame.now.misc r }
 {
     Map {
         pid: short_number(frame, 0),
@@ -97,7 +97,7 @@ fn inode_in(frame: &FlatFrame) -> Inode
 // Which file is mapped, in an MMAP2.
 fn identity_in<'p>(bytes: &'p [u8], frame: &FlatFrame) -> Identity<'p>
     ensures { (r : Mmap2Value) → HasContents bytes.now frame.now (records.mmap2_is r) →
-        plain_identity result.entry ≡ changes.identity_of frame.now.misc r.detail }
+        plain_identity result ≡ changes.identity_of frame.now.misc r.detail }
 {
     if frame.misc / (1 << 14) % 2 == 1 {
         Identity::BuildId(string(bytes, frame, 1))
@@ -109,7 +109,7 @@ fn identity_in<'p>(bytes: &'p [u8], frame: &FlatFrame) -> Identity<'p>
 // A mapping, in an MMAP2.
 fn mmap2_in<'p>(bytes: &'p [u8], frame: &FlatFrame) -> Map<'p>
     ensures { (r : Mmap2Value) → HasContents bytes.now frame.now (records.mmap2_is r) →
-        plain (change.Map result.entry) ≡ changes.mmap2_change frame.now.misc r }
+        plain (change.Map result) ≡ changes.mmap2_change frame.now.misc r }
 {
     Map {
         pid: short_number(frame, 0),
@@ -126,7 +126,7 @@ fn mmap2_in<'p>(bytes: &'p [u8], frame: &FlatFrame) -> Map<'p>
 // A symbol of the kernel, in a KSYMBOL.
 fn symbol_in<'p>(bytes: &'p [u8], frame: &FlatFrame) -> Symbol<'p>
     ensures { (r : KSymbolValue) → HasContents bytes.now frame.now (records.ksymbol_is r) →
-        plain (change.Symbol result.entry) ≡ changes.symbol_change r }
+        plain (change.Symbol result) ≡ changes.symbol_change r }
 {
     Symbol {
         start: number(frame, 0),

@@ -4,9 +4,11 @@
 mod calls;
 mod changing;
 mod parts;
+mod sampling;
 mod walk;
 
 pub use calls::{Call, push_calls, push_chain};
 pub use changing::change_in;
 pub use parts::bytes_at;
+pub use sampling::{Sample, sample_in};
 pub use walk::{Found, Walk};

@@ -155,17 +155,19 @@ impl<'a, 'p> Walk<'a, 'p> {
     }
 
     /// The name of a thread by then.
+    #[tactic(auto, using(crate::proofs::PlainNames::name_plain))]
     pub fn comm(&self, tid: u32) -> Name<'p>
         ensures { (known : List Change) → IsPast self.now.history known →
-            plain_name result.entry ≡ name_of known tid }
+            plain_name result ≡ name_of known tid }
     {
         self.history.comm(tid)
     }
 
     /// What is mapped by then at an address at which a process runs code in this mode.
+    #[tactic(auto, using(crate::proofs::PlainNames::place_plain))]
     pub fn place(&self, pid: u32, mode: Mode, address: u64) -> Option<Place<'p>>
         ensures { (known : List Change) → IsPast self.now.history known →
-            option_map plain_place result.entry ≡ place_of known pid mode address }
+            option_map plain_place result ≡ place_of known pid mode address }
     {
         self.history.place(pid, mode, address)
     }

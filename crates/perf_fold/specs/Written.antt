@@ -1,0 +1,42 @@
+-- What is written of the folded stacks of a file.
+use Rattle.std.specs.Prelude.{◌≡◌, ℕ, List, Option, Result, Ok, Err}
+use Rattle.perf_flame.specs.Lines.{Line}
+use Rattle.perf_lines.specs.Outcomes.{status_of}
+use Rattle.perf_lines.specs.declared.outcome.Outcome.{Outcome}
+use Rattle.perf_file.specs.Forms.{opened, event_name}
+use Rattle.perf_file.specs.Opened.{File}
+use Rattle.perf_file.specs.Opens.{Fails}
+use Rattle.perf_file.specs.declared.error.OpenError.TheVariants as opens
+use Rattle.perf_folded.specs.Written.{WritesForm}
+use Rattle.perf_folded.specs.declared.error.TextError.TheVariants as texts
+use Rattle.perf_folded.specs.declared.form.Form.{Form}
+use Rattle.perf_fold.specs.EventNames.{names_by}
+use Rattle.perf_fold.specs.Folds.{IsFoldOf}
+use Rattle.perf_fold.specs.declared.error.FoldError.{FoldError}
+use Rattle.perf_fold.specs.declared.error.FoldError.TheVariants as errors
+use Rattle.perf_fold.specs.declared.folding.Choice.{Choice}
+use Rattle.perf_folded.specs.declared.error.TextError.{TextError}
+
+-- these are the lines of what the bytes of a file contain
+abbrev pub AreLinesOf : Choice → (bytes : List ℕ) → List Line → Type 0
+AreLinesOf how bytes lines =
+    (f : File) × (opened bytes ≡ Ok f) × IsFoldOf how (names_by (event_name bytes f) 0 f.events) f lines
+
+-- what was written of the lines of a file
+abbrev pub WritesLines : Choice → Form → (bytes : List ℕ) → Result Outcome TextError → (old new : Option (List ℕ)) → Type 0
+WritesLines how form bytes ended old new = (lines : List Line) × AreLinesOf how bytes lines × WritesForm form lines ended old new
+
+-- What was written of the folded stacks of the bytes of a file: nothing, if it cannot be opened, there
+-- is no such text, or memory ran out.
+abbrev pub WritesFold : Choice → Form → (bytes : List ℕ) → Result Outcome FoldError → (old new : Option (List ℕ)) → Type 0
+WritesFold how form bytes (Ok ended) old new = WritesLines how form bytes (Ok ended) old new
+WritesFold how form bytes (Err (errors.Open e)) old new = Fails e (opened bytes) × (new ≡ old)
+WritesFold how form bytes (Err (errors.Text texts.OutOfMemory)) old new = new ≡ old
+WritesFold how form bytes (Err (errors.Text e)) old new = WritesLines how form bytes (Err e) old new
+
+-- the exit status: 2 if there is no text, 3 if memory runs out
+abbrev pub status_after : Result Outcome FoldError → ℕ
+status_after (Ok ended) = status_of ended
+status_after (Err (errors.Open opens.OutOfMemory)) = 3
+status_after (Err (errors.Text texts.OutOfMemory)) = 3
+status_after (Err e) = 2

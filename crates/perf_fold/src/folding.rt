@@ -1,0 +1,139 @@
+//! Folds a recording.
+
+ghost use Rattle.std.specs.Prelude.{◌≡◌, IfOk, List, OnOk};
+ghost use Rattle.perf_file.specs.Views.{view};
+ghost use Rattle.perf_flame.specs.FoldedLines.{folded_lines};
+ghost use Rattle.perf_history.specs.declared.changes.Change.{Change};
+ghost use Rattle.perf_walk.specs.Moments.{known_after};
+ghost use Rattle.perf_walk.specs.Plain.{IsPast};
+ghost use Rattle.perf_fold.specs.EventNames.{own_names};
+ghost use Rattle.perf_fold.specs.Folds as folds;
+
+use crate::names::names_of;
+use crate::stack::{put_calls, put_stack};
+use perf_file::{Entry, Recording};
+use perf_flame::folded::Folded;
+use perf_stacks::{Frames, Stacks};
+use perf_walk::{Call, Found, Sample, Walk, sample_in};
+use std::alloc::{AllocError, Global};
+
+/// What a sample counts as.
+#[derive(Clone, Copy, Debug, PartialEq, Eq)]
+pub enum Weight {
+    /// One.
+    Samples,
+    /// Its period: how many events happened since the sample before.
+    Period,
+}
+
+/// How a recording is folded.
+#[derive(Clone, Copy, Debug)]
+pub struct Choice {
+    /// What frames are named by.
+    pub frames: Frames,
+    /// What a sample counts as.
+    pub weight: Weight,
+}
+
+// What a sample counts as.
+fn weight_of(weight: Weight, sample: &Sample) -> u64
+    ensures { result ≡ folds.weight_of weight sample.now }
+{
+    match weight {
+        Weight::Samples => 1,
+        Weight::Period => sample.period,
+    }
+}
+
+// The lines of the frames so far, and what is used again for each.
+#[derive(Drop)]
+struct Folder {
+    how: Choice,
+    names: Vec<String>,
+    stacks: Stacks,
+    calls: Vec<Call>,
+    folded: Folded,
+}
+
+impl Folder {
+    ghost use Rattle.std.specs.Prelude.{ℕ, Some, option_map};
+    ghost use Rattle.perf_base.specs.Dynamic.{order_of};
+    ghost use Rattle.perf_base.specs.Header.{header_of};
+    ghost use Rattle.perf_fold.specs.EventNames.{texts_of};
+    ghost use Rattle.perf_walk.specs.Moments.{Moment};
+    ghost use Rattle.perf_walk.specs.Steps.{IsFrameOf};
+    ghost use Rattle.perf_file.specs.Opened.{File};
+
+    // Adds the sample of a frame that was found, if it is one.
+    fn add(&mut self, walk: &Walk<'_, '_>, found: &Found<'_>) -> Result<(), AllocError>
+        ensures added { (m : Moment) → IsFrameOf (view walk.now.recording.now) m found.now walk.now.frame →
+            IsPast walk.now.history m.known →
+            OnOk result (folded_lines self.new.folded ≡ folds.add_moment self.old.how
+            (texts_of self.old.names.items) (order_of (view walk.now.recording.now).order)
+            (folded_lines self.old.folded) m) }
+        ensures how { self.new.how ≡ self.old.how }
+        ensures names { self.new.names ≡ self.old.names }
+    {
+        let frame = walk.frame();
+        let Some(sample) = sample_in(frame) else {
+            return Ok(());
+        };
+        let order = walk.recording().order();
+        put_calls(&mut self.calls, order, found.bytes, frame, &sample)?;
+        let frames = self.how.frames;
+        put_stack(
+            &mut self.stacks,
+            walk,
+            &self.names,
+            found.event,
+            frames,
+            &sample,
+            &self.calls,
+        )?;
+        self.folded
+            .add(self.stacks.text(), weight_of(self.how.weight, &sample))
+    }
+
+    // Goes on to the frame of an entry, and adds it.
+    fn go_on(&mut self, walk: &mut Walk<'_, '_>, entry: &Entry) -> Result<(), AllocError> {
+        match walk.step(entry)? {
+            Some(found) => self.add(walk, &found),
+            None => Ok(()),
+        }
+    }
+}
+
+/// The folded stacks of a recording: for each sample, in order of time, a stack, whose count is how
+/// many samples have it, or the sum of their periods modulo 2^64.
+///
+/// A stack is the name of the thread, the name of the event if the file has several, and the frames
+/// of the call chain from the outermost to the innermost. Without addresses in the chain, the
+/// address of the instruction is the one frame.
+pub fn fold(alloc: Global, recording: &Recording<'_>, how: Choice) -> Result<Folded, AllocError>
+    ensures { IfOk result (λ folded. folds.IsFoldOf how (own_names recording.now.events.items)
+        (view recording.now) (folded_lines folded)) }
+{
+    let entries = recording.in_order(alloc)?;
+    fold_entries(alloc, recording, how, &entries)
+}
+
+// The folded stacks of the samples of entries.
+fn fold_entries(
+    alloc: Global,
+    recording: &Recording<'_>,
+    how: Choice,
+    entries: &[Entry],
+) -> Result<Folded, AllocError> {
+    let mut walk = Walk::new(alloc, recording);
+    let mut folder = Folder {
+        how,
+        names: names_of(alloc, recording)?,
+        stacks: Stacks::new(alloc),
+        calls: Vec::new(alloc),
+        folded: Folded::new(alloc),
+    };
+    for entry in entries {
+        folder.go_on(&mut walk, entry)?;
+    }
+    Ok(folder.folded)
+}
