@@ -7,7 +7,7 @@ use Rattle.perf_file.specs.declared.events.Event.{Event}
 use Rattle.perf_file.specs.declared.ids.IdOfEvent.{IdOfEvent}
 use Rattle.perf_script.specs.Ids.{event_or}
 
-if_alike : {A : Type 0} (b : Bool) (x y z : A) → y ≡ z → (if b then x else y) ≡ (if b then x else z)
+pub if_alike : {A : Type 0} (b : Bool) (x y z : A) → y ≡ z → (if b then x else y) ≡ (if b then x else z)
 if_alike b x y z e = ap (λ w. if b then x else w) e
 
 -- the event of an id in two tables

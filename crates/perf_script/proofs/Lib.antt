@@ -4,3 +4,4 @@ pub mod Naming
 pub mod InTurn
 pub mod IdTables
 pub mod Groups
+pub mod Found

@@ -1,6 +1,6 @@
 //! The columns of a line.
 
-ghost use Rattle.std.specs.Prelude.{◌≡◌, ◌≤◌, ◌++◌, OnOk, decimal, replicate};
+ghost use Rattle.std.specs.Prelude.{◌≡◌, ◌+◌, ◌≤◌, ◌++◌, OnOk, decimal, replicate};
 ghost use Rattle.perf_text.specs.Strips.{strip_text, room_of};
 ghost use Rattle.perf_script.specs.Columns as columns;
 
@@ -47,6 +47,7 @@ fn push_zeros(text: &mut Vec<u8>, width: usize, word: &[u8]) -> Result<(), Alloc
 pub(crate) fn put_signed(strip: &mut Strip, number: u32)
     requires { 21 ≤ room_of strip.old }
     ensures text { strip_text strip.new ≡ columns.signed number ++ strip_text strip.old }
+    ensures room { room_of strip.old ≤ room_of strip.new + 21 }
 {
     if number < 1 << 31 {
         strip.put_number(u64::from(number));

@@ -1,6 +1,8 @@
 //! The events that ids belong to.
 
-ghost use Rattle.std.specs.Prelude.{◌≡◌, ℕ, IfOk, OnOk};
+ghost use Rattle.std.specs.Prelude.{◌≡◌, ◌==◌, ℕ, Some, IfOk, OnOk, if◌then◌else◌};
+ghost use Rattle.std.specs.BTreeMap.{get};
+ghost use Rattle.std.specs.Ordering.{nat_cmp};
 ghost use Rattle.perf_file.specs.IdTables.{event_of, ids_of};
 ghost use Rattle.perf_file.specs.Opened.{table_of};
 ghost use Rattle.perf_file.specs.Views.{view};
@@ -16,6 +18,15 @@ pub struct Ids {
     events: BTreeMap<u64, usize>,
 }
 
+// Adds the id of an event.
+fn add_id(events: &mut BTreeMap<u64, usize>, event: usize, id: u64) -> Result<(), AllocError>
+    ensures { OnOk result ((other : ℕ) → get nat_cmp events.new other
+        ≡ (if id == other then Some event else get nat_cmp events.old other)) }
+{
+    events.insert(id, event)?;
+    Ok(())
+}
+
 // Adds the ids of an event.
 fn add_ids(
     events: &mut BTreeMap<u64, usize>,
@@ -27,7 +38,7 @@ fn add_ids(
     let mut left = ids.len();
     while left > 0 {
         left -= 1;
-        events.insert(ids[left], event)?;
+        add_id(events, event, ids[left])?;
     }
     Ok(())
 }
