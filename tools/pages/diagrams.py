@@ -29,6 +29,7 @@ RETURNS = {
     "perf_flame": "folded stacks, flame graphs",
     "perf_stacks": "the names of their frames",
     "perf_folded": "folded stacks as text",
+    "perf_script": "the text of samples",
     "perf_lines": "the text of a run",
     "perf_reports": "lines of tasks and samples, counts",
     "perf_data_text": "the text of a perf.data file",
@@ -41,7 +42,7 @@ RETURNS = {
 FACES = ("perf_event_data", "perf_event_c", "perf_file", "perf_history", "perf_flame")
 OTHERS = {
     "Examples and measurements": ["perf_uses", "perf_bench", "perf_file_bench"],
-    "Tests": ["perf_program_tests", "perf_unit_tests", "perf_file_tests", "perf_history_tests", "perf_flame_tests",
+    "Tests": ["perf_program_tests", "perf_unit_tests", "perf_file_tests", "perf_history_tests", "perf_flame_tests", "perf_script_tests",
               "perf_out_of_memory", "perf_replay"],
     "Tests without a parser": ["perf_buffer_tests", "perf_value_tests"],
     "What tests share": ["perf_test_inputs", "perf_test_helpers"],

@@ -3,8 +3,8 @@
 //! `perf_data events FILE` prints a line for each event, with `--header` after lines of what perf states
 //! about the machine and the command. `perf_data dump FILE` prints a line for each
 //! frame in the order of the file, with `--order time` by time: what the line of `perfrec` has, and
-//! after its number the offset of the frame in the file and its event. `perf_data fold --merge FILE ..`
-//! adds up folded stacks, and `perf_data flame --folded FILE` draws a flame graph of them, with
+//! after its number the offset of the frame in the file and its event. `perf_data script FILE` prints the
+//! samples by time, as `perf script` does. `perf_data fold --merge FILE ..` adds up folded stacks, and `perf_data flame --folded FILE` draws a flame graph of them, with
 //! `--inverted` from the innermost frames on. A FILE of `-` is standard
 //! input. The whole file is read into memory, and all of its text is made before any is written; of a
 //! large file a line on standard error says so, if that is a terminal.

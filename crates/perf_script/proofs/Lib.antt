@@ -5,3 +5,4 @@ pub mod InTurn
 pub mod IdTables
 pub mod Groups
 pub mod Found
+pub mod Ways

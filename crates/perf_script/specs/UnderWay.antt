@@ -8,7 +8,7 @@ use Rattle.perf_file.specs.declared.opening.Recording.{Recording}
 use Rattle.perf_history.specs.declared.changes.Change.{Change}
 use Rattle.perf_sample_types.specs.Sample.{SampleValue}
 use Rattle.perf_walk.specs.Calls.{calls_of}
-use Rattle.perf_walk.specs.Moments.{moments}
+use Rattle.perf_walk.specs.Moments.{Moment, moments}
 use Rattle.perf_walk.specs.Plain.{IsPast}
 use Rattle.perf_walk.specs.declared.sampling.Sample.{Sample}
 use Rattle.perf_words.specs.Bits.{has_bit}
@@ -17,15 +17,15 @@ use Rattle.perf_script.specs.Counters.{readings_of}
 use Rattle.perf_script.specs.Ids.{finds}
 use Rattle.perf_script.specs.Labels.{EventLabel, label_view}
 use Rattle.perf_script.specs.SampleText.{Shown}
-use Rattle.perf_script.specs.ScriptText.{text_from, any_refused}
+use Rattle.perf_script.specs.ScriptText.{text_at, text_from, read_at, is_refused, any_refused}
 use Rattle.perf_script.specs.declared.readings.Reading.{Reading}
 use Rattle.perf_script.specs.declared.script.Events.{Events}
 use Rattle.perf_script.specs.declared.script.Script.{Script}
 use Rattle.perf_script.specs.declared.script.State.{State}
 
 -- the events of a file have these labels, and are found by their ids
-pub record AreEvents (f : File) (labels : List EventLabel) (events : Events) : Type 0 where
-  pub labels : map label_view events.labels.items ≡ labels
+pub record AreEvents (f : File) (all : List EventLabel) (events : Events) : Type 0 where
+  pub labels : map label_view events.labels.items ≡ all
   pub ids : (id : ℕ) → finds events.ids id ≡ event_of (table_of f.events) id
 
 -- what is shown of a sample by the parts that were found
@@ -44,6 +44,12 @@ pub record IsBegun (r : Recording) (script : Script) : Type 0 where
   pub counted : IsCounted script.state.known []
   pub text : script.text.items ≡ []
   pub refused : script.refused ≡ false
+
+-- the text of a frame was appended to one
+pub record Pushes (f : File) (labels : List EventLabel) (m : Moment) (older : List Reading) (old new : Script) : Type 0 where
+  pub counted : IsCounted new.state.known (read_at f older m)
+  pub text : new.text.items ≡ old.text.items ++ text_at f labels older m
+  pub refused : new.refused ≡ (old.refused || is_refused f m)
 
 -- the frames of these entries are left of a text, and of the question whether any is refused
 pub record IsUnderWay (f : File) (labels : List EventLabel) (left : List Entry) (any : Bool) (whole : List ℕ) (script : Script) : Type 0 where

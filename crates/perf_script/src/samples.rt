@@ -202,7 +202,7 @@ fn push_own(
 ) -> Result<(), AllocError>
     ensures { (changes : List Change) → IsHistory history.now changes →
         OnOk result (text.new.items ≡ text.old.items ++ samples.own_text
-        heading.label.now heading.period changes (shown_in shown.now)) }
+        heading.entry.label.now heading.entry.period changes (shown_in shown.now)) }
 {
     push_head(text, history, shown)?;
     push_period(text, heading.period)?;
@@ -221,7 +221,7 @@ pub fn push_sample(
 ) -> Result<(), AllocError>
     ensures { (changes : List Change) → IsHistory history.now changes →
         OnOk result (text.new.items ≡ text.old.items ++ samples.sample_text
-        heading.label.now heading.period changes (shown_in shown.now)) }
+        heading.entry.label.now heading.entry.period changes (shown_in shown.now)) }
 {
     if shown.guest {
         return Ok(());

@@ -21,7 +21,7 @@ ghost use Rattle.perf_script.specs.Ids.{finds};
 ghost use Rattle.perf_script.specs.Labels as labels;
 ghost use Rattle.perf_script.specs.ScriptText as script;
 ghost use Rattle.perf_script.specs.Seen.{shown_in};
-ghost use Rattle.perf_script.specs.UnderWay.{AreEvents, IsUnderWay, IsBegun, HasParts, shown_by};
+ghost use Rattle.perf_script.specs.UnderWay.{AreEvents, IsUnderWay, IsBegun, HasParts, Pushes, shown_by};
 
 use crate::ids::Ids;
 use crate::labels::{Label, labels_of};
@@ -76,7 +76,7 @@ fn heading_of(list: &[Label], event: usize) -> Heading<'_>
 
 // The period of a sample with this heading.
 fn period_of(heading: Heading<'_>, shown: &Sampled<'_>) -> u64
-    ensures { result ≡ script.period_of (heading_view heading) (shown_in shown.now) }
+    ensures { result ≡ script.period_of (heading_view heading.entry) (shown_in shown.now) }
 {
     if has_field(shown.fields, PERIOD) {
         shown.sample.period
@@ -327,6 +327,26 @@ impl<'a, 'p> Script<'a, 'p> {
         }
     }
 
+    // Appends the text of the frame that was found last.
+    fn push(&mut self, events: &Events, found: &Found<'_>) -> Result<(), AllocError>
+        ensures pushes { (f : File) (all : List labels.EventLabel) (m : Moment) (older : List Reading) →
+            view self.old.walk.recording.now ≡ f → AreEvents f all events.now →
+            IsFrameOf f m found.now self.old.walk.frame → IsPast self.old.walk.history m.known →
+            IsCounted self.old.state.known older → OnOk result (Pushes f all m older self.old self.new) }
+        ensures walk { self.new.walk ≡ self.old.walk }
+    {
+        self.refused |= self.walk.frame().refusal != 0;
+        push_found(
+            &mut self.text,
+            events,
+            &mut self.state,
+            self.walk.recording().order(),
+            found,
+            self.walk.history(),
+            self.walk.frame(),
+        )
+    }
+
     // Goes on to the frame of an entry.
     fn step(&mut self, events: &Events, entry: &Entry) -> Result<(), AllocError>
         ensures { (f : File) (all : List labels.EventLabel) (left : List Entry) (any : Bool)
@@ -334,19 +354,10 @@ impl<'a, 'p> Script<'a, 'p> {
             IsUnderWay f all (entry.now ∷ left) any whole self.old →
             OnOk result (IsUnderWay f all left any whole self.new) }
     {
-        let Some(found) = self.walk.step(entry)? else {
-            return Ok(());
-        };
-        self.refused |= self.walk.frame().refusal != 0;
-        push_found(
-            &mut self.text,
-            events,
-            &mut self.state,
-            self.walk.recording().order(),
-            &found,
-            self.walk.history(),
-            self.walk.frame(),
-        )
+        match self.walk.step(entry)? {
+            Some(found) => self.push(events, &found),
+            None => Ok(()),
+        }
     }
 }
 

@@ -6,13 +6,12 @@ use Rattle.std.proofs.lemmas.List.{length-take-le, length-drop}
 use Rattle.std.proofs.lemmas.Nat.{div-mul-add}
 use Rattle.perf_base.specs.Layout.{slice, words_of}
 use Rattle.perf_base.specs.Order.{Order}
-use Rattle.perf_flat.specs.Arrays.{no_span}
 use Rattle.perf_flat.specs.Samples.{HasList}
 use Rattle.perf_flat.specs.Strings.{HasNumbers}
 use Rattle.perf_flat.specs.declared.frame.Span.{Span}
 use Rattle.perf_walk.specs.Calls.{chain_calls}
 use Rattle.perf_walk.specs.Parts.{bytes_at}
-use Rattle.perf_walk.specs.declared.calls.Call.{Call}
+use Rattle.perf_walk.proofs.Stated.{nothing_here}
 
 -- the numbers at a span
 abbrev words_at : Order → List ℕ → Span → List ℕ
@@ -37,4 +36,5 @@ numbers_here o frame s numbers has =
 pub calls_here : (o : Order) (frame : List ℕ) (s : Span) (chain : Option (List ℕ)) → HasList o frame s chain
     → chain_calls (words_of o (length (bytes_at frame s) / 8) (bytes_at frame s)) ≡ (elim chain [ Some numbers ↦ chain_calls numbers | None ↦ [] ])
 calls_here o frame s (Some numbers) has = ap chain_calls (numbers_here o frame s numbers has)
-calls_here o frame s None none = ap (λ (t : Span). chain_calls (words_of o (length (bytes_at frame t) / 8) (bytes_at frame t))) none
+calls_here o frame s None none =
+    ap (λ (t : Span). chain_calls (words_at o frame t)) none ∙ ap (λ bytes. chain_calls (words_of o (length bytes / 8) bytes)) (nothing_here frame)

@@ -1,4 +1,5 @@
 pub mod Values
 pub mod Stated
+pub mod Made
 pub mod PlainNames
 pub mod Chains

@@ -8,7 +8,8 @@ use Rattle.perf_base.specs.Layout.{Parts, map_parts, value, slice}
 use Rattle.perf_base.specs.Order.{Order}
 use Rattle.perf_base.specs.declared.error.ErrorKind.{ErrorKind}
 use Rattle.perf_flat.specs.Flat.{IsFlat, StatesAnswer, StatesRecord, StatesRefusal, read_type, ids_of, numbers_under}
-use Rattle.perf_flat.specs.Strings.{HasBytes}
+use Rattle.perf_flat.specs.Arrays.{no_span}
+use Rattle.perf_flat.specs.Strings.{HasBytes, HasStrings, if_there, span_at}
 use Rattle.perf_flat.specs.declared.frame.FlatFrame.{FlatFrame}
 use Rattle.perf_flat.specs.declared.frame.Span.{Span}
 use Rattle.perf_records.specs.Answers.{FrameParts, answer_of_frame, split_of_frame}
@@ -16,7 +17,7 @@ use Rattle.perf_records.specs.Bodies.{body}
 use Rattle.perf_records.specs.Records.{RecordValue}
 use Rattle.perf_sample_types.specs.SampleId.{SampleIdValue}
 use Rattle.perf_history.specs.declared.changes.Change.{Change}
-use Rattle.perf_walk.specs.Changes.{change_in, change_if, change_of}
+use Rattle.perf_walk.specs.Changes.{change_in, change_if, change_of, or_empty}
 use Rattle.perf_walk.specs.Parts.{bytes_at}
 use Rattle.perf_walk.specs.Samples.{sample_if, sample_of}
 use Rattle.perf_walk.proofs.Values.{mapped_value, answer_value, read_is, kind_of, body_kind, IsOther, no_change, no_sample}
@@ -89,3 +90,12 @@ pub bytes_here : (frame : List ℕ) (s : Span) (bytes : List ℕ) → HasBytes f
 bytes_here frame s bytes has =
     let a : nat_le (s.at + s.len) (length frame) ≡ true = le-leb (s.at + s.len) (length frame) has.inside in
     rw a has.there
+
+-- none are at a span of no bytes
+pub nothing_here : (frame : List ℕ) → bytes_at frame no_span ≡ []
+nothing_here frame = let a : nat_le (0 + 0) (length frame) ≡ true = le-leb (0 + 0) (length frame) (omega arith) in rw a refl
+
+-- a byte string that may be absent
+pub string_here : (frame : List ℕ) (spans : List Span) (n : ℕ) (string : Option (List ℕ)) → HasStrings frame spans n (if_there string) → bytes_at frame (span_at spans n) ≡ or_empty string
+string_here frame spans n (Some bytes) has = bytes_here frame (span_at spans n) bytes has.0
+string_here frame spans n None has = ap (bytes_at frame) (has n (omega arith)) ∙ nothing_here frame

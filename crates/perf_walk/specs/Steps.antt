@@ -24,7 +24,7 @@ Reads f e None flat = frame_at f e ≡ None
 pub record IsFrameOf (f : File) (m : Moment) (found : Found) (flat : FlatFrame) : Type 0 where
   pub bytes : found.bytes.now ≡ m.frame
   pub event : found.event ≡ m.event
-  pub flat : IsFlat m.config (order_of f.order) m.frame flat
+  pub states : IsFlat m.config (order_of f.order) m.frame flat
 
 -- the frame of a moment was found, or there is none
 abbrev pub Finds : File → Option Moment → Option Found → FlatFrame → Type 0

@@ -1,6 +1,6 @@
 //! What a frame states about threads and memory.
 
-ghost use Rattle.std.specs.Prelude.{◌≡◌, List, option_map};
+ghost use Rattle.std.specs.Prelude.{◌≡◌, ℕ, List, option_map};
 ghost use Rattle.perf_base.specs.Configuration.{Configuration};
 ghost use Rattle.perf_base.specs.Order.{Order};
 ghost use Rattle.perf_flat.specs.Flat.{IsFlat};
@@ -15,7 +15,7 @@ ghost use Rattle.perf_walk.specs.Changes as changes;
 ghost use Rattle.perf_walk.specs.Contents.{HasContents};
 ghost use Rattle.perf_walk.specs.Plain.{plain, plain_identity};
 
-use crate::parts::{number, short_number, string};
+use crate::parts::{has_bit, number, short_number, string};
 use perf_base::sys::{
     PERF_RECORD_COMM, PERF_RECORD_FORK, PERF_RECORD_KSYMBOL, PERF_RECORD_MMAP, PERF_RECORD_MMAP2,
 };
@@ -60,7 +60,7 @@ fn fork_in(frame: &FlatFrame) -> Fork
         ppid: short_number(frame, 1),
         tid: short_number(frame, 2),
         ptid: short_number(frame, 3),
-        made_up: frame.misc / (1 << 13) % 2 == 1,
+        made_up: has_bit(u64::from(frame.misc), 13),
     }
 }
 
@@ -77,7 +77,7 @@ fn mmap_in<'p>(bytes: &'p [u8], frame: &FlatFrame) -> Map<'p>
         offset: number(frame, 4),
         file: string(bytes, frame, 0),
         identity: Identity::Unknown,
-        executable: frame.misc / (1 << 13) % 2 == 0,
+        executable: !has_bit(u64::from(frame.misc), 13),
     }
 }
 
@@ -99,7 +99,7 @@ fn identity_in<'p>(bytes: &'p [u8], frame: &FlatFrame) -> Identity<'p>
     ensures { (r : Mmap2Value) → HasContents bytes.now frame.now (records.mmap2_is r) →
         plain_identity result ≡ changes.identity_of frame.now.misc r.detail }
 {
-    if frame.misc / (1 << 14) % 2 == 1 {
+    if has_bit(u64::from(frame.misc), 14) {
         Identity::BuildId(string(bytes, frame, 1))
     } else {
         Identity::Inode(inode_in(frame))
@@ -119,7 +119,7 @@ fn mmap2_in<'p>(bytes: &'p [u8], frame: &FlatFrame) -> Map<'p>
         offset: number(frame, 4),
         file: string(bytes, frame, 0),
         identity: identity_in(bytes, frame),
-        executable: number(frame, 5) / 4 % 2 == 1,
+        executable: has_bit(number(frame, 5), 2),
     }
 }
 
@@ -132,6 +132,6 @@ fn symbol_in<'p>(bytes: &'p [u8], frame: &FlatFrame) -> Symbol<'p>
         start: number(frame, 0),
         len: number(frame, 1),
         name: string(bytes, frame, 0),
-        removed: number(frame, 3) % 2 == 1,
+        removed: has_bit(number(frame, 3), 0),
     }
 }

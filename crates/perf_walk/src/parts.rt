@@ -3,6 +3,7 @@
 ghost use Rattle.std.specs.Prelude.{◌≡◌, ◌<◌, get_or, max, take};
 ghost use Rattle.perf_flat.specs.Arrays.{low_u32};
 ghost use Rattle.perf_flat.specs.Strings.{span_at};
+ghost use Rattle.perf_words.specs.Bits.{has_bit};
 ghost use Rattle.perf_walk.specs.Parts.{bytes_at};
 
 use perf_flat::frame::{FlatFrame, Span};
@@ -21,6 +22,14 @@ pub(crate) fn short_number(frame: &FlatFrame, index: usize) -> u32
     ensures { result ≡ low_u32 (get_or frame.now.numbers index 0) }
 {
     (number(frame, index) % (1 << 32)) as u32
+}
+
+// Whether a bit of a number is set.
+pub(crate) fn has_bit(number: u64, bit: u32) -> bool
+    requires { bit < 64 }
+    ensures { result ≡ has_bit number bit }
+{
+    (number >> bit) % 2 == 1
 }
 
 // A span of a frame.

@@ -89,7 +89,7 @@ impl<'a, 'p> Walk<'a, 'p> {
 
     /// A walk before its first step. Nothing is known then.
     pub fn new(alloc: Global, recording: &'a Recording<'p>) -> Walk<'a, 'p>
-        ensures recording { result.recording ≡ recording }
+        ensures recording { result.recording.now ≡ recording.now }
         ensures known { IsPast result.history [] }
     {
         Walk {
@@ -107,7 +107,7 @@ impl<'a, 'p> Walk<'a, 'p> {
     pub fn step(&mut self, entry: &Entry) -> Result<Option<Found<'p>>, AllocError>
         ensures steps { (older : List Change) → IsPast self.old.history older →
             Steps (view self.old.recording.now) entry.now older result self.new }
-        ensures recording { self.new.recording ≡ self.old.recording }
+        ensures recording { self.new.recording.now ≡ self.old.recording.now }
     {
         let Some(bytes) = self.read(entry) else {
             return Ok(None);
@@ -124,7 +124,7 @@ impl<'a, 'p> Walk<'a, 'p> {
     fn read(&mut self, entry: &Entry) -> Option<&'p [u8]>
         ensures found { Reads (view self.old.recording.now) entry.now result self.new.frame }
         ensures history { self.new.history ≡ self.old.history }
-        ensures recording { self.new.recording ≡ self.old.recording }
+        ensures recording { self.new.recording.now ≡ self.old.recording.now }
     {
         let recording = self.recording;
         let config = recording.config(entry.owner)?;
@@ -135,7 +135,7 @@ impl<'a, 'p> Walk<'a, 'p> {
 
     /// The recording.
     pub fn recording(&self) -> &'a Recording<'p>
-        ensures { result ≡ self.now.recording }
+        ensures { result.now ≡ self.now.recording.now }
     {
         self.recording
     }
