@@ -9,6 +9,7 @@ use Rattle.perf_history.specs.declared.changes.Change.TheVariants.{Comm, Fork, M
 use Rattle.perf_history.specs.declared.changes.Identity.{Identity}
 use Rattle.perf_history.specs.declared.changes.Identity.TheVariants.{Unknown}
 use Rattle.perf_history.specs.declared.changes.Inode as inodes
+use Rattle.perf_history.specs.declared.changes.Mode.{Mode}
 use Rattle.perf_records.specs.Records.{comm_is, fork_is, mmap_is, mmap2_is, ksymbol_is}
 use Rattle.perf_types.specs.Comm.{CommValue}
 use Rattle.perf_types.specs.KSymbol.{KSymbolValue}
@@ -53,17 +54,17 @@ fork_made frame f r misc has pid ppid tid ptid made_up p pp t pt m =
     let d : ptid ≡ low_u32 r.ptid = pt ∙ ap (λ ns. low_u32 (get_or ns 3 0)) has.numbers in
     rw (a, b, c, d, m) refl
 
-pub mmap_made : (frame : List ℕ) (f : FlatFrame) (r : MmapValue) (misc : ℕ) → HasContents frame f (mmap_is r) → (pid start len offset : ℕ) (file : List ℕ) (executable : Bool)
-    → pid ≡ low_u32 (at f 0) → start ≡ at f 2 → len ≡ at f 3 → offset ≡ at f 4 → file ≡ first frame f → executable ≡ not (has_bit misc 13)
-    → Map (record { pid = pid; mode = mode_of misc; start = start; len = len; offset = offset; file = lent file; identity = Unknown; executable = executable }) ≡ mmap_change misc r
+pub mmap_made : (frame : List ℕ) (f : FlatFrame) (r : MmapValue) (misc : ℕ) → HasContents frame f (mmap_is r) → (pid : ℕ) (mode : Mode) (start len offset : ℕ) (file : List ℕ) (executable : Bool)
+    → pid ≡ low_u32 (at f 0) → mode ≡ mode_of misc → start ≡ at f 2 → len ≡ at f 3 → offset ≡ at f 4 → file ≡ first frame f → executable ≡ not (has_bit misc 13)
+    → Map (record { pid = pid; mode = mode; start = start; len = len; offset = offset; file = lent file; identity = Unknown; executable = executable }) ≡ mmap_change misc r
 unfolding filled
-mmap_made frame f r misc has pid start len offset file executable p s l o n x =
+mmap_made frame f r misc has pid mode start len offset file executable p m s l o n x =
     let a : pid ≡ low_u32 r.pid = p ∙ ap (λ ns. low_u32 (get_or ns 0 0)) has.numbers in
     let b : start ≡ r.addr = s ∙ ap (λ ns. get_or ns 2 0) has.numbers in
     let c : len ≡ r.len = l ∙ ap (λ ns. get_or ns 3 0) has.numbers in
     let d : offset ≡ r.pgoff = o ∙ ap (λ ns. get_or ns 4 0) has.numbers in
     let e : file ≡ r.filename = n ∙ bytes_here frame (span_at f.spans 0) r.filename has.strings.0 in
-    rw (a, b, c, d, e, x) refl
+    rw (a, m, b, c, d, e, x) refl
 
 pub inode_made : (frame : List ℕ) (f : FlatFrame) (r : Mmap2Value) → HasContents frame f (mmap2_is r) → (major minor number generation : ℕ)
     → major ≡ low_u32 (at f 7) → minor ≡ low_u32 (at f 8) → number ≡ at f 9 → generation ≡ at f 10
@@ -76,18 +77,18 @@ inode_made frame f r has major minor number generation ma mi n g =
     let d = g ∙ ap (λ ns. get_or ns 10 0) has.numbers in
     rw (a, b, c, d) refl
 
-pub mmap2_made : (frame : List ℕ) (f : FlatFrame) (r : Mmap2Value) (misc : ℕ) → HasContents frame f (mmap2_is r) → (pid start len offset : ℕ) (file : List ℕ) (identity : Identity) (executable : Bool)
-    → pid ≡ low_u32 (at f 0) → start ≡ at f 2 → len ≡ at f 3 → offset ≡ at f 4 → file ≡ first frame f → identity ≡ identity_of misc r.detail → executable ≡ has_bit (at f 5) 2
-    → Map (record { pid = pid; mode = mode_of misc; start = start; len = len; offset = offset; file = lent file; identity = identity; executable = executable }) ≡ mmap2_change misc r
+pub mmap2_made : (frame : List ℕ) (f : FlatFrame) (r : Mmap2Value) (misc : ℕ) → HasContents frame f (mmap2_is r) → (pid : ℕ) (mode : Mode) (start len offset : ℕ) (file : List ℕ) (identity : Identity) (executable : Bool)
+    → pid ≡ low_u32 (at f 0) → mode ≡ mode_of misc → start ≡ at f 2 → len ≡ at f 3 → offset ≡ at f 4 → file ≡ first frame f → identity ≡ identity_of misc r.detail → executable ≡ has_bit (at f 5) 2
+    → Map (record { pid = pid; mode = mode; start = start; len = len; offset = offset; file = lent file; identity = identity; executable = executable }) ≡ mmap2_change misc r
 unfolding filled
-mmap2_made frame f r misc has pid start len offset file identity executable p s l o n i x =
+mmap2_made frame f r misc has pid mode start len offset file identity executable p m s l o n i x =
     let a : pid ≡ low_u32 r.pid = p ∙ ap (λ ns. low_u32 (get_or ns 0 0)) has.numbers in
     let b : start ≡ r.addr = s ∙ ap (λ ns. get_or ns 2 0) has.numbers in
     let c : len ≡ r.len = l ∙ ap (λ ns. get_or ns 3 0) has.numbers in
     let d : offset ≡ r.pgoff = o ∙ ap (λ ns. get_or ns 4 0) has.numbers in
     let e : file ≡ r.filename = n ∙ bytes_here frame (span_at f.spans 0) r.filename has.strings.0 in
     let g : executable ≡ has_bit r.prot 2 = x ∙ ap (λ ns. has_bit (get_or ns 5 0) 2) has.numbers in
-    rw (a, b, c, d, e, i, g) refl
+    rw (a, m, b, c, d, e, i, g) refl
 
 pub symbol_made : (frame : List ℕ) (f : FlatFrame) (r : KSymbolValue) → HasContents frame f (ksymbol_is r) → (start len : ℕ) (name : List ℕ) (removed : Bool)
     → start ≡ at f 0 → len ≡ at f 1 → name ≡ first frame f → removed ≡ has_bit (at f 3) 0

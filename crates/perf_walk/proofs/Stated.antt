@@ -18,6 +18,7 @@ use Rattle.perf_records.specs.Records.{RecordValue}
 use Rattle.perf_sample_types.specs.SampleId.{SampleIdValue}
 use Rattle.perf_history.specs.declared.changes.Change.{Change}
 use Rattle.perf_walk.specs.Changes.{change_in, change_if, change_of, or_empty}
+use Rattle.perf_walk.specs.Contents.{HasContents}
 use Rattle.perf_walk.specs.Parts.{bytes_at}
 use Rattle.perf_walk.specs.Samples.{sample_if, sample_of}
 use Rattle.perf_walk.proofs.Values.{mapped_value, answer_value, read_is, kind_of, body_kind, IsOther, no_change, no_sample}
@@ -99,3 +100,16 @@ nothing_here frame = let a : nat_le (0 + 0) (length frame) ≡ true = le-leb (0 
 pub string_here : (frame : List ℕ) (spans : List Span) (n : ℕ) (string : Option (List ℕ)) → HasStrings frame spans n (if_there string) → bytes_at frame (span_at spans n) ≡ or_empty string
 string_here frame spans n (Some bytes) has = bytes_here frame (span_at spans n) bytes has.0
 string_here frame spans n None has = ap (bytes_at frame) (has n (omega arith)) ∙ nothing_here frame
+
+-- what is made of the record of a type is what the frame states
+pub stated_change : {A : Type 0} (n : ℕ) (made : A → RecordValue) (parts : Configuration → Parts A) → ((c : Configuration) → body c (suc n) ≡ map_parts made (parts c))
+    → ((c : Configuration) (o : Order) (frame : List ℕ) (ids : SampleIdValue) (r : A) (f : FlatFrame) → StatesRecord c o frame ids (made r) f → HasContents frame f (made r))
+    → (change : (misc : ℕ) → A → Change) → ((misc : ℕ) (r : A) → change_in misc (made r) ≡ Some (change misc r))
+    → (c : Configuration) (o : Order) (frame : List ℕ) (f : FlatFrame) → IsFlat c o frame f → f.read ≡ suc n → (x : Change) → ((r : A) → HasContents frame f (made r) → x ≡ change f.misc r)
+    → Some x ≡ change_of c o frame
+stated_change n made parts table contents change says c o frame f is read x same =
+    let found = of_type n made parts table c o frame f is read in
+    let stated = flat_record c o frame (made found.0) f is found.1 in
+    let h = header_of o frame in
+    ap Some (same found.0 (contents c o frame stated.0 found.0 f stated.1) ∙ ap (λ m. change m found.0) is.header.misc)
+    ∙ sym (ap (change_if h.misc) found.1 ∙ says h.misc found.0)
