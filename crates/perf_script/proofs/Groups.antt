@@ -189,10 +189,10 @@ group_here o frame s read has =
     let words : List ℕ = words_of o (n * block_len wi wl) bytes in
     let many : length words / block_len wi wl ≡ n = ap (λ m. m / block_len wi wl) (words_length o (n * block_len wi wl) bytes) ∙ times wi wl n in
     rw inside (
-      ap (λ k. blocks.readings_in o wi wl k bytes) count
-      ∙ group_words o wi wl n (n * block_len wi wl) bytes refl
-      ∙ ap (λ k. map reading_of (entries_of wi wl k words)) (sym many)
-      ∙ ap (map reading_of) has.there
+    ap (λ k. blocks.readings_in o wi wl k bytes) count
+    ∙ group_words o wi wl n (n * block_len wi wl) bytes refl
+    ∙ ap (λ k. map reading_of (entries_of wi wl k words)) (sym many)
+    ∙ ap (map reading_of) has.there
     )
 
 group_none : (o : Order) (wi wl : Bool) (frame : List ℕ) → group_at o wi wl frame no_span ≡ []

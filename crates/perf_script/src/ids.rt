@@ -28,11 +28,7 @@ fn add_id(events: &mut BTreeMap<u64, usize>, event: usize, id: u64) -> Result<()
 }
 
 // Adds the ids of an event.
-fn add_ids(
-    events: &mut BTreeMap<u64, usize>,
-    event: usize,
-    ids: &[u64],
-) -> Result<(), AllocError>
+fn add_ids(events: &mut BTreeMap<u64, usize>, event: usize, ids: &[u64]) -> Result<(), AllocError>
     ensures { OnOk result (Adds (ids_of event ids.now) events.old events.new) }
 {
     let mut left = ids.len();

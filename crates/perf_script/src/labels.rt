@@ -68,11 +68,7 @@ fn label_of(alloc: Global, event: &Event<'_>, width: usize) -> Result<Label, All
 }
 
 // Those of events, with names in a column of a width.
-fn labels_with(
-    alloc: Global,
-    events: &[Event<'_>],
-    width: usize,
-) -> Result<Vec<Label>, AllocError>
+fn labels_with(alloc: Global, events: &[Event<'_>], width: usize) -> Result<Vec<Label>, AllocError>
     ensures { IfOk result (λ v. map labels.label_view v.items
         ≡ map (labels.own_label width) events.now) }
 {

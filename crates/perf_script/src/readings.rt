@@ -30,7 +30,9 @@ pub struct Reading {
 
 // The flags of a read format.
 const WITH_ID: u32 = 2;
+
 const WITH_GROUP: u32 = 3;
+
 const WITH_LOST: u32 = 4;
 
 // Whether a read format has a flag.

@@ -30,9 +30,13 @@ pub struct Sampled<'a> {
 
 // The flags of the fields that are shown.
 const IP: u32 = 0;
+
 const TID: u32 = 1;
+
 const TIME: u32 = 2;
+
 const CALLCHAIN: u32 = 5;
+
 const CPU: u32 = 7;
 
 // Whether a field is there.
@@ -60,7 +64,11 @@ fn push_thread(
         OnOk result (text.new.items ≡ text.old.items
         ++ samples.thread_columns changes (shown_in shown.now)) }
 {
-    push_name_column(text, is_chained(shown.fields), history.comm(shown.sample.tid))?;
+    push_name_column(
+        text,
+        is_chained(shown.fields),
+        history.comm(shown.sample.tid),
+    )?;
     push_task(text, shown.sample.pid, shown.sample.tid)
 }
 

@@ -36,6 +36,7 @@ use std::alloc::{AllocError, Global};
 
 // The flags of fields.
 const READ: u32 = 4;
+
 const PERIOD: u32 = 8;
 
 // The events of a recording.

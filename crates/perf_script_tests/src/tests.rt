@@ -7,8 +7,11 @@ use std::alloc::{AllocError, Global};
 use std::test::Fail;
 
 // What perf printed of a sample with a chain, and of one without.
-const CHAINED: &[u8] = b"sh  4573/4573   1759.690334477:          7 page-faults/period=7,call-graph=fp/: \n\t           1b7c9 (/usr/lib/x86_64-linux-gnu/ld-linux-x86-64.so.2)\n\t           1ab78 (/usr/lib/x86_64-linux-gnu/ld-linux-x86-64.so.2)\n\n";
-const PLAIN: &[u8] = b"              sh     2/2     [003]   924.414122702:    1000000 cpu-clock/freq=1000/:  ffffffff81607559 ([kernel.kallsyms])\n";
+const CHAINED: &[u8] =
+    b"sh  4573/4573   1759.690334477:          7 page-faults/period=7,call-graph=fp/: \n\t           1b7c9 (/usr/lib/x86_64-linux-gnu/ld-linux-x86-64.so.2)\n\t           1ab78 (/usr/lib/x86_64-linux-gnu/ld-linux-x86-64.so.2)\n\n";
+
+const PLAIN: &[u8] =
+    b"              sh     2/2     [003]   924.414122702:    1000000 cpu-clock/freq=1000/:  ffffffff81607559 ([kernel.kallsyms])\n";
 
 // A thread with a name, the dynamic loader in its memory, and the kernel.
 fn history<'p>(alloc: Global, tid: u32) -> Result<History<'p>, AllocError> {

@@ -14,8 +14,7 @@ loop-left-preserved c =
     let at : ℕ = c.loop-left.left - 1 in
     let next : suc at ≡ c.loop-left.left = omega (arith, c.loop-left-test.true) in
     let cons : drop at ids ≡ get_or ids at 0 ∷ drop c.loop-left.left ids =
-    drop-cons ids at 0 (omega (arith, c.loop-left-test.true, c.loop-left.invariant.0)) ∙ ap (λ n. get_or ids at 0 ∷ drop n ids) next in
-    (
+    drop-cons ids at 0 (omega (arith, c.loop-left-test.true, c.loop-left.invariant.0)) ∙ ap (λ n. get_or ids at 0 ∷ drop n ids) next in (
       omega (arith, c.loop-left.invariant.0),
       λ id.
           let old : Option ℕ = get nat_cmp c.args.events.now id in

@@ -15,8 +15,7 @@ loop-left-preserved c =
     let next : at + 1 ≡ left = omega (arith, c.loop-left-test.true) in
     let suc_next : suc at ≡ left = omega (arith, c.loop-left-test.true) in
     let cons : drop at events ≡ e ∷ rest =
-    drop-cons events at e (omega (arith, c.loop-left-test.true, c.loop-left.invariant.0)) ∙ ap (λ x. x ∷ drop (suc at) events) (sym c.index-list-left.is) ∙ ap (λ n. e ∷ drop n events) suc_next in
-    (
+    drop-cons events at e (omega (arith, c.loop-left-test.true, c.loop-left.invariant.0)) ∙ ap (λ x. x ∷ drop (suc at) events) (sym c.index-list-left.is) ∙ ap (λ n. e ∷ drop n events) suc_next in (
       omega (arith, c.loop-left.invariant.0),
       λ id.
           c.in_ok-add_ids.ensures id
