@@ -1,7 +1,7 @@
 -- What is known of a flat frame.
 use Rattle.std.proofs.Common.{◌≡◌, ℕ, Bool, ◌==◌, true, false, not, List, refl, sym, ◌∙◌, ap, subst}
 use Rattle.std.specs.Prelude.{Option, Some, None, Result, Ok, Err, is_err}
-use Rattle.std.proofs.lemmas.Bool.{eqb-true, eqb-refl}
+use Rattle.std.proofs.lemmas.Bool.{eqb-true}
 use Rattle.perf_base.specs.Configuration.{Configuration}
 use Rattle.perf_base.specs.Order.{Order}
 use Rattle.perf_base.specs.Refusals.{refusal_kind}

@@ -1,5 +1,5 @@
 -- The text of the sample that was found in a frame.
-use Rattle.std.proofs.Common.{◌≡◌, ℕ, Bool, true, false, List, [], ◌∷◌, ◌++◌, map, refl, sym, ◌∙◌, ap, subst, append_assoc}
+use Rattle.std.proofs.Common.{◌≡◌, ℕ, suc, ◌+◌, ◌<◌, Bool, true, false, List, [], ◌∷◌, ◌++◌, map, length, drop, get_or, drop-cons, refl, sym, ◌∙◌, ap, subst, append_assoc, arith}
 use Rattle.std.specs.Prelude.{Option, Some, None, option_map}
 use Rattle.perf_base.specs.Dynamic.{order_of}
 use Rattle.perf_base.specs.Header.{header_of}
@@ -18,17 +18,33 @@ use Rattle.perf_walk.specs.Samples.{sample_view}
 use Rattle.perf_walk.specs.declared.calls.Call.{Call}
 use Rattle.perf_walk.specs.declared.sampling.Sample.{Sample}
 use Rattle.perf_words.specs.Bits.{has_bit}
-use Rattle.perf_script.specs.Counters.{readings_of, counters_text, counter_text}
-use Rattle.perf_script.specs.Labels.{EventLabel}
+use Rattle.perf_script.specs.Counters.{readings_of, counters_text, counter_text, moved_text}
+use Rattle.perf_script.specs.Ids.{finds}
+use Rattle.perf_script.specs.Labels.{EventLabel, label_view}
+use Rattle.perf_script.specs.Moved.{moved}
 use Rattle.perf_script.specs.SampleText.{Shown}
 use Rattle.perf_script.specs.ScriptText.{is_guest, has_counters, shown_text, plain_text, read_by, read_at, text_at, sample_at, shown_at}
-use Rattle.perf_script.specs.UnderWay.{HasParts, shown_by}
+use Rattle.perf_script.specs.UnderWay.{AreEvents, HasParts, shown_by}
 use Rattle.perf_script.specs.declared.readings.Reading.{Reading}
+use Rattle.perf_script.specs.declared.script.Events.{Events}
 use Rattle.perf_script.specs.declared.script.State.{State}
 use Rattle.perf_script.proofs.Fields.{fields_of}
 use Rattle.perf_script.proofs.PlainText.{shown_same}
 
+-- ---- lists
+
+pub drop_next : {X : Type 0} (xs : List X) (i : ℕ) (d : X) → i < length xs → drop i xs ≡ get_or xs i d ∷ drop (i + 1) xs
+drop_next xs i d lt = let next : suc i ≡ i + 1 = omega arith in drop-cons xs i d lt ∙ ap (λ n. get_or xs i d ∷ drop n xs) next
+
 -- ---- one counter after another
+
+-- the text of a counter, by what was found
+pub counter_same : (f : File) (all : List EventLabel) (events : Events) (changes : List Change) (s : Shown) (now : List Reading) (r : Reading) (far : ℕ) → AreEvents f all events → far ≡ moved now r
+    → moved_text (map label_view events.labels.items) changes s (finds events.ids r.id) far ≡ counter_text all (table_of f.events) changes s now r
+counter_same f all events changes s now r far h is =
+    ap (λ ls. moved_text ls changes s (finds events.ids r.id) far) h.labels
+    ∙ ap (λ e. moved_text all changes s e far) (h.ids r.id)
+    ∙ ap (moved_text all changes s (event_of (table_of f.events) r.id)) is
 
 pub counters_more : (labels : List EventLabel) (ids : List IdOfEvent) (changes : List Change) (s : Shown) (now left rest : List Reading) (r : Reading) (text grown whole : List ℕ) → left ≡ r ∷ rest
     → text ++ counters_text labels ids changes s now left ≡ whole → grown ≡ text ++ counter_text labels ids changes s now r

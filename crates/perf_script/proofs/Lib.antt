@@ -6,3 +6,4 @@ pub mod IdTables
 pub mod Groups
 pub mod Found
 pub mod Ways
+pub mod Blocks

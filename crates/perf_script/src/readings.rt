@@ -85,6 +85,7 @@ fn first_reading(order: Dynamic, with_id: bool, bytes: &[u8]) -> Reading
 }
 
 // Appends the counters of a group, by its numbers.
+#[tactic(auto, using(crate::proofs::Blocks::room))]
 fn push_group(
     readings: &mut Vec<Reading>,
     order: Dynamic,
