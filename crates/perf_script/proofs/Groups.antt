@@ -174,11 +174,7 @@ slice_length frame at len inside =
     let long = length-drop at frame in
     length-take-le len (drop at frame) (omega (arith, long, inside))
 
--- the counters of the group at a span
-abbrev pub group_at : Order → (wi wl : Bool) → (frame : List ℕ) → Span → List Reading
-group_at o wi wl frame s = blocks.readings_in o wi wl (length (bytes_at frame s) / (8 * block_len wi wl)) (bytes_at frame s)
-
-group_here : (o : Order) (frame : List ℕ) (s : Span) (read : GroupRead) → HasEntries o frame s read → group_at o read.with_id read.with_lost frame s ≡ map reading_of read.entries
+group_here : (o : Order) (frame : List ℕ) (s : Span) (read : GroupRead) → HasEntries o frame s read → blocks.group_at o read.with_id read.with_lost frame s ≡ map reading_of read.entries
 group_here o frame s read has =
     let wi : Bool = read.with_id in
     let wl : Bool = read.with_lost in
@@ -195,19 +191,19 @@ group_here o frame s read has =
     ∙ ap (map reading_of) has.there
     )
 
-group_none : (o : Order) (wi wl : Bool) (frame : List ℕ) → group_at o wi wl frame no_span ≡ []
+group_none : (o : Order) (wi wl : Bool) (frame : List ℕ) → blocks.group_at o wi wl frame no_span ≡ []
 group_none o true true frame = refl
 group_none o true false frame = refl
 group_none o false true frame = refl
 group_none o false false frame = refl
 
 counters_here : (r : ℕ) (o : Order) (frame : List ℕ) (s : Span) (read : Option GroupRead) → has_group r ≡ true → ((g : GroupRead) → read ≡ Some g → IsOfFormat r g) → HasCounters r o frame s read
-    → group_at o (has_counter_id r) (has_lost r) frame s ≡ (elim read [ Some g ↦ readings_in (has_group r) g | None ↦ [] ])
+    → blocks.group_at o (has_counter_id r) (has_lost r) frame s ≡ (elim read [ Some g ↦ readings_in (has_group r) g | None ↦ [] ])
 counters_here r o frame s (Some g) yes formed has =
     let is = formed g refl in
     let entries : HasEntries o frame s g = rw yes at has in
-    rw yes (ap (λ wi. group_at o wi (has_lost r) frame s) (sym is.with_id) ∙ ap (λ wl. group_at o g.with_id wl frame s) (sym is.with_lost) ∙ group_here o frame s g entries)
-counters_here r o frame s None yes formed none = ap (group_at o (has_counter_id r) (has_lost r) frame) none ∙ group_none o (has_counter_id r) (has_lost r) frame
+    rw yes (ap (λ wi. blocks.group_at o wi (has_lost r) frame s) (sym is.with_id) ∙ ap (λ wl. blocks.group_at o g.with_id wl frame s) (sym is.with_lost) ∙ group_here o frame s g entries)
+counters_here r o frame s None yes formed none = ap (blocks.group_at o (has_counter_id r) (has_lost r) frame) none ∙ group_none o (has_counter_id r) (has_lost r) frame
 
 -- ---- the one counter, in the numbers of a flat frame
 
@@ -264,7 +260,7 @@ format_kept c o frame s f is e there =
     states.read_format ∙ counter_format c f.type_ (type_nine c o frame s f is e) known
 
 pub readings_group : (c : Configuration) (o : Order) (frame : List ℕ) (s : SampleValue) (f : FlatFrame) → IsFlat c o frame f → sample_of c o frame ≡ Some s → has_group c.read_format ≡ true
-    → group_at o (has_counter_id c.read_format) (has_lost c.read_format) frame (span_at f.spans 2) ≡ readings_of c.read_format s
+    → blocks.group_at o (has_counter_id c.read_format) (has_lost c.read_format) frame (span_at f.spans 2) ≡ readings_of c.read_format s
 readings_group c o frame s f is e yes =
     let states = (flat_record c o frame (sample_is s) f is (answer_is c o frame s e)).1 in
     counters_here c.read_format o frame (span_at f.spans 2) (getters_of s).values yes (λ g some. group_of_format c o frame s f g is e some yes) states.1.values

@@ -1,6 +1,8 @@
 -- The counters in the numbers of a read.
-use Rattle.std.specs.Prelude.{ℕ, zero, suc, ◌*◌, ◌==◌, Bool, List, [], ◌∷◌, drop, get_or, take, if◌then◌else◌}
+use Rattle.std.specs.Prelude.{ℕ, zero, suc, ◌*◌, ◌/◌, ◌==◌, Bool, List, [], ◌∷◌, drop, length, get_or, take, if◌then◌else◌}
 use Rattle.perf_base.specs.Order.{Order}
+use Rattle.perf_flat.specs.declared.frame.Span.{Span}
+use Rattle.perf_walk.specs.Parts.{bytes_at}
 use Rattle.perf_types.specs.GroupEntry.{block_len}
 use Rattle.perf_script.specs.declared.readings.Reading.{Reading}
 
@@ -13,6 +15,11 @@ abbrev pub readings_in : Order → (with_id with_lost : Bool) → (count : ℕ) 
 readings_in o with_id with_lost zero bytes = []
 readings_in o with_id with_lost (suc count) bytes =
     first_reading o with_id bytes ∷ readings_in o with_id with_lost count (drop (8 * block_len with_id with_lost) bytes)
+
+-- those of a group at a span of a frame
+abbrev pub group_at : Order → (with_id with_lost : Bool) → (frame : List ℕ) → Span → List Reading
+group_at o with_id with_lost frame s =
+    readings_in o with_id with_lost (length (bytes_at frame s) / (8 * block_len with_id with_lost)) (bytes_at frame s)
 
 -- the counter that was read by itself, by the numbers of a flat frame
 abbrev pub single_in : List ℕ → List Reading

@@ -4,8 +4,10 @@ ghost use Rattle.std.specs.Prelude.{◌≡◌, ◌++◌, ◌∷◌, ◌*◌, ◌
 ghost use Rattle.perf_base.specs.Configuration.{Configuration};
 ghost use Rattle.perf_base.specs.Dynamic.{order_of};
 ghost use Rattle.perf_flat.specs.Flat.{IsFlat};
+ghost use Rattle.perf_flat.specs.Strings.{span_at};
 ghost use Rattle.perf_sample_types.specs.Sample.{SampleValue};
 ghost use Rattle.perf_types.specs.GroupEntry.{block_len};
+ghost use Rattle.perf_walk.specs.Parts.{bytes_at};
 ghost use Rattle.perf_walk.specs.Samples.{sample_of};
 ghost use Rattle.perf_words.specs.Bits.{has_bit};
 ghost use Rattle.perf_script.specs.Blocks as blocks;
@@ -108,6 +110,33 @@ fn push_group(
     Ok(())
 }
 
+// The numbers of the group in a frame.
+fn group_bytes<'a>(bytes: &'a [u8], frame: &FlatFrame) -> &'a [u8]
+    ensures { result.now ≡ bytes_at bytes.now (span_at frame.now.spans 2) }
+{
+    bytes_at(bytes, frame.spans[2])
+}
+
+// Appends the counters of the group in a frame.
+fn push_entries(
+    readings: &mut Vec<Reading>,
+    order: Dynamic,
+    bytes: &[u8],
+    frame: &FlatFrame,
+) -> Result<(), AllocError>
+    ensures { OnOk result (readings.new.items ≡ readings.old.items ++ blocks.group_at
+        (order_of order) (has_bit frame.now.read_format 2) (has_bit frame.now.read_format 4)
+        bytes.now (span_at frame.now.spans 2)) }
+{
+    push_group(
+        readings,
+        order,
+        has_flag(frame.read_format, WITH_ID),
+        has_flag(frame.read_format, WITH_LOST),
+        group_bytes(bytes, frame),
+    )
+}
+
 // Appends the counter that was read by itself, if there is one.
 fn push_single(readings: &mut Vec<Reading>, frame: &FlatFrame) -> Result<(), AllocError>
     ensures { OnOk result (readings.new.items ≡ readings.old.items
@@ -134,16 +163,8 @@ pub fn push_readings(
         sample_of c (order_of order) bytes.now ≡ Some s → has_bit frame.now.present 4 ≡ true →
         OnOk result (readings.new.items ≡ readings.old.items ++ counters.readings_of c.read_format s) }
 {
-    let format = frame.read_format;
-    if has_flag(format, WITH_GROUP) {
-        let group = bytes_at(bytes, frame.spans[2]);
-        push_group(
-            readings,
-            order,
-            has_flag(format, WITH_ID),
-            has_flag(format, WITH_LOST),
-            group,
-        )
+    if has_flag(frame.read_format, WITH_GROUP) {
+        push_entries(readings, order, bytes, frame)
     } else {
         push_single(readings, frame)
     }

@@ -1,6 +1,6 @@
 //! The text of a recording.
 
-ghost use Rattle.std.specs.Prelude.{◌≡◌, ◌++◌, ◌∷◌, ℕ, Bool, [], Some, IfOk, OnOk, List, map};
+ghost use Rattle.std.specs.Prelude.{◌≡◌, ◌<◌, ◌≤◌, ◌++◌, ◌∷◌, ℕ, Bool, [], Some, IfOk, OnOk, List, MatchOption, length, map, slice_index_or};
 ghost use Rattle.perf_base.specs.Configuration.{Configuration};
 ghost use Rattle.perf_base.specs.Dynamic.{order_of};
 ghost use Rattle.perf_file.specs.Names.{Name};
@@ -59,11 +59,19 @@ impl Events {
     }
 }
 
+// The label of an event, if there is one with that number.
+fn label_of(list: &[Label], event: usize) -> Option<&Label>
+    ensures { MatchOption result (length list.now ≤ event) (λ l. (event < length list.now)
+        × (l.now ≡ slice_index_or list.now event l.now)) }
+{
+    list.get(event)
+}
+
 // The heading of an event's samples that contain no period.
 fn heading_of(list: &[Label], event: usize) -> Heading<'_>
     ensures { heading_view result ≡ labels.label_at (map labels.label_view list.now) event }
 {
-    match list.get(event) {
+    match label_of(list, event) {
         Some(label) => Heading {
             label: &label.text,
             period: label.period,

@@ -18,10 +18,9 @@ loop-count-preserved c =
     let is : len ≡ 8 * block_len wi wl = ap (λ n. 8 * n) c.block_len.ensures.value in
     let some : count ≡ suc (count - 1) = omega (arith, c.loop-count-test.true) in
     let old : List Reading = c.loop-count.readings.items in
-    let rest : List Reading = readings_in o wi wl (count - 1) (drop len left) in
-    (
+    let rest : List Reading = readings_in o wi wl (count - 1) (drop len left) in (
       count_less wi wl count len left is c.loop-count-test.true c.loop-count.invariant.0,
       ap (λ rs. rs ++ rest) c.in_ok-push.ensures.items ∙ append_assoc old (c.first_reading.result ∷ []) rest
-      ∙ ap (λ (r : Reading). old ++ (r ∷ rest)) c.first_reading.ensures
-      ∙ ap (λ rs. old ++ rs) (sym (readings_more o wi wl count len left is some)) ∙ c.loop-count.invariant.1,
+          ∙ ap (λ (r : Reading). old ++ (r ∷ rest)) c.first_reading.ensures
+          ∙ ap (λ rs. old ++ rs) (sym (readings_more o wi wl count len left is some)) ∙ c.loop-count.invariant.1,
     )
