@@ -156,6 +156,16 @@ input=$work/first
 check 0 "$work/output" fold --merge "$work/second" -
 input=/dev/null
 
+# Of a recording the stacks are those that perf prints; by files alone where a sample has no call chain.
+check 0 "$folded" fold "$file"
+check 0 "$folded" fold "$examples/big-endian.data"
+for name in machine group; do
+    check 0 "$examples/$name.files" fold --frames files "$examples/$name.data"
+done
+"${program[@]}" flame --folded "$folded" >"$work/output"
+check 0 "$work/output" flame "$file"
+check 2 /dev/null fold "$folded"
+
 # Their flame graph, which an XML parser reads, also where names would open a tag: draws FOLDED
 draws() {
     for way in '' --inverted; do

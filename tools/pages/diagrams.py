@@ -23,12 +23,14 @@ RETURNS = {
     "perf_flat": "a frame as one struct, no memory",
     "perf_file": "the frames of a perf.data file",
     "perf_history": "names of threads, and what is mapped",
+    "perf_walk": "frames in turn, and what is known then",
     "perf_event_data": "the public names",
     "perf_event_c": "the calls for C, one archive",
     "perf_text": "text that is written backward",
     "perf_flame": "folded stacks, flame graphs",
     "perf_stacks": "the names of their frames",
     "perf_folded": "folded stacks as text",
+    "perf_fold": "the folded stacks of a file",
     "perf_script": "the text of samples",
     "perf_lines": "the text of a run",
     "perf_reports": "lines of tasks and samples, counts",
@@ -42,8 +44,8 @@ RETURNS = {
 FACES = ("perf_event_data", "perf_event_c", "perf_file", "perf_history", "perf_flame")
 OTHERS = {
     "Examples and measurements": ["perf_uses", "perf_bench", "perf_file_bench"],
-    "Tests": ["perf_program_tests", "perf_unit_tests", "perf_file_tests", "perf_history_tests", "perf_flame_tests", "perf_script_tests",
-              "perf_out_of_memory", "perf_replay"],
+    "Tests": ["perf_program_tests", "perf_unit_tests", "perf_file_tests", "perf_history_tests", "perf_flame_tests",
+              "perf_walk_tests", "perf_script_tests", "perf_out_of_memory", "perf_replay"],
     "Tests without a parser": ["perf_buffer_tests", "perf_value_tests"],
     "What tests share": ["perf_test_inputs", "perf_test_helpers"],
 }

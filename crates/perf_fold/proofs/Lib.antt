@@ -1,1 +1,5 @@
 pub mod PlainTexts
+pub mod NamesAlike
+pub mod Moving
+pub mod Adding
+pub mod Lined

@@ -31,6 +31,11 @@ add_sample how names m misc lines None = lines
 abbrev pub add_moment : Choice → (names : List (List ℕ)) → Order → List Line → Moment → List Line
 add_moment how names o lines m = add_sample how names m (header_of o m.frame).misc lines (sample_of m.config o m.frame)
 
+-- the same for a frame that may be absent
+abbrev pub add_if : Choice → (names : List (List ℕ)) → Order → List Line → Option Moment → List Line
+add_if how names o lines (Some m) = add_moment how names o lines m
+add_if how names o lines None = lines
+
 -- the lines of frames, added to others
 abbrev pub add_moments : Choice → (names : List (List ℕ)) → Order → List Line → List Moment → List Line
 add_moments how names o lines ms = fold (add_moment how names o) lines ms

@@ -1,10 +1,11 @@
 //! Folds a recording.
 
-ghost use Rattle.std.specs.Prelude.{◌≡◌, IfOk, List, OnOk};
+ghost use Rattle.std.specs.Prelude.{◌≡◌, [], IfOk, List, OnOk};
+ghost use Rattle.perf_base.specs.Dynamic.{order_of};
 ghost use Rattle.perf_file.specs.Views.{view};
 ghost use Rattle.perf_flame.specs.FoldedLines.{folded_lines};
 ghost use Rattle.perf_history.specs.declared.changes.Change.{Change};
-ghost use Rattle.perf_walk.specs.Moments.{known_after};
+ghost use Rattle.perf_walk.specs.Moments.{moments};
 ghost use Rattle.perf_walk.specs.Plain.{IsPast};
 ghost use Rattle.perf_fold.specs.EventNames.{own_names};
 ghost use Rattle.perf_fold.specs.Folds as folds;
@@ -56,13 +57,64 @@ struct Folder {
 }
 
 impl Folder {
-    ghost use Rattle.std.specs.Prelude.{ℕ, Some, option_map};
-    ghost use Rattle.perf_base.specs.Dynamic.{order_of};
-    ghost use Rattle.perf_base.specs.Header.{header_of};
+    ghost use Rattle.std.specs.Prelude.{Some, reverse};
+    ghost use Rattle.perf_flame.specs.Lines.{add_count};
     ghost use Rattle.perf_fold.specs.EventNames.{texts_of};
-    ghost use Rattle.perf_walk.specs.Moments.{Moment};
+    ghost use Rattle.perf_fold.specs.SampleStacks.{sample_calls, stack_text};
+    ghost use Rattle.perf_sample_types.specs.Sample.{SampleValue};
+    ghost use Rattle.perf_walk.specs.Samples.{sample_of, sample_view};
+    ghost use Rattle.perf_walk.specs.Moments.{Moment, known_after, moment_at};
     ghost use Rattle.perf_walk.specs.Steps.{IsFrameOf};
-    ghost use Rattle.perf_file.specs.Opened.{File};
+
+    // No lines yet.
+    fn new(alloc: Global, how: Choice, names: Vec<String>) -> Folder
+        ensures how { result.how ≡ how }
+        ensures names { result.names ≡ names }
+        ensures lines { folded_lines result.folded ≡ [] }
+    {
+        Folder {
+            how,
+            names,
+            stacks: Stacks::new(alloc),
+            calls: Vec::new(alloc),
+            folded: Folded::new(alloc),
+        }
+    }
+
+    // Adds a sample, that of a frame that was found.
+    fn add_sample(
+        &mut self,
+        walk: &Walk<'_, '_>,
+        found: &Found<'_>,
+        sample: &Sample,
+    ) -> Result<(), AllocError>
+        ensures added { (m : Moment) (s : SampleValue) →
+            IsFrameOf (view walk.now.recording.now) m found.now walk.now.frame →
+            IsPast walk.now.history m.known →
+            sample_of m.config (order_of (view walk.now.recording.now).order) m.frame ≡ Some s →
+            sample.now ≡ sample_view walk.now.frame.misc s →
+            OnOk result (folded_lines self.new.folded ≡ add_count (folded_lines self.old.folded)
+            (stack_text self.old.how.frames (texts_of self.old.names.items) m.event m.known sample.now
+            (reverse (sample_calls walk.now.frame.misc s)))
+            (folds.weight_of self.old.how.weight sample.now)) }
+        ensures how { self.new.how ≡ self.old.how }
+        ensures names { self.new.names ≡ self.old.names }
+    {
+        let order = walk.recording().order();
+        put_calls(&mut self.calls, order, found.bytes, walk.frame(), sample)?;
+        let frames = self.how.frames;
+        put_stack(
+            &mut self.stacks,
+            walk,
+            &self.names,
+            found.event,
+            frames,
+            sample,
+            &self.calls,
+        )?;
+        self.folded
+            .add(self.stacks.text(), weight_of(self.how.weight, sample))
+    }
 
     // Adds the sample of a frame that was found, if it is one.
     fn add(&mut self, walk: &Walk<'_, '_>, found: &Found<'_>) -> Result<(), AllocError>
@@ -74,28 +126,23 @@ impl Folder {
         ensures how { self.new.how ≡ self.old.how }
         ensures names { self.new.names ≡ self.old.names }
     {
-        let frame = walk.frame();
-        let Some(sample) = sample_in(frame) else {
-            return Ok(());
-        };
-        let order = walk.recording().order();
-        put_calls(&mut self.calls, order, found.bytes, frame, &sample)?;
-        let frames = self.how.frames;
-        put_stack(
-            &mut self.stacks,
-            walk,
-            &self.names,
-            found.event,
-            frames,
-            &sample,
-            &self.calls,
-        )?;
-        self.folded
-            .add(self.stacks.text(), weight_of(self.how.weight, &sample))
+        match sample_in(walk.frame()) {
+            Some(sample) => self.add_sample(walk, found, &sample),
+            None => Ok(()),
+        }
     }
 
     // Goes on to the frame of an entry, and adds it.
-    fn go_on(&mut self, walk: &mut Walk<'_, '_>, entry: &Entry) -> Result<(), AllocError> {
+    fn go_on(&mut self, walk: &mut Walk<'_, '_>, entry: &Entry) -> Result<(), AllocError>
+        ensures gone { (known : List Change) → IsPast walk.old.history known →
+            OnOk result (IsPast walk.new.history (known_after (view walk.old.recording.now) entry.now known)
+            × (folded_lines self.new.folded ≡ folds.add_if self.old.how (texts_of self.old.names.items)
+            (order_of (view walk.old.recording.now).order) (folded_lines self.old.folded)
+            (moment_at (view walk.old.recording.now) entry.now known))) }
+        ensures how { self.new.how ≡ self.old.how }
+        ensures names { self.new.names ≡ self.old.names }
+        ensures recording { walk.new.recording.now ≡ walk.old.recording.now }
+    {
         match walk.step(entry)? {
             Some(found) => self.add(walk, &found),
             None => Ok(()),
@@ -123,15 +170,13 @@ fn fold_entries(
     recording: &Recording<'_>,
     how: Choice,
     entries: &[Entry],
-) -> Result<Folded, AllocError> {
+) -> Result<Folded, AllocError>
+    ensures { IfOk result (λ folded. folded_lines folded ≡ folds.add_moments how
+        (own_names recording.now.events.items) (order_of (view recording.now).order) []
+        (moments (view recording.now) entries.now [])) }
+{
     let mut walk = Walk::new(alloc, recording);
-    let mut folder = Folder {
-        how,
-        names: names_of(alloc, recording)?,
-        stacks: Stacks::new(alloc),
-        calls: Vec::new(alloc),
-        folded: Folded::new(alloc),
-    };
+    let mut folder = Folder::new(alloc, how, names_of(alloc, recording)?);
     for entry in entries {
         folder.go_on(&mut walk, entry)?;
     }

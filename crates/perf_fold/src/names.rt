@@ -1,7 +1,7 @@
 //! The names of events.
 
 ghost use Rattle.std.specs.Prelude.{◌≡◌, ◌++◌, [], IfOk, OnOk, map, string_bytes};
-ghost use Rattle.perf_fold.specs.EventNames.{own_names, texts_of};
+ghost use Rattle.perf_fold.specs.EventNames.{own_name, own_names, texts_of};
 
 use perf_file::{Event, Recording};
 use std::alloc::{AllocError, Global};
@@ -10,8 +10,9 @@ use std::alloc::{AllocError, Global};
 pub(crate) fn names_of(alloc: Global, recording: &Recording<'_>) -> Result<Vec<String>, AllocError>
     ensures { IfOk result (λ names. texts_of names.items ≡ own_names recording.now.events.items) }
 {
+    let events = recording.events();
     let mut names = Vec::new(alloc);
-    for event in recording.events() {
+    for event in events {
         names.push(name_of(alloc, event)?)?;
     }
     Ok(names)

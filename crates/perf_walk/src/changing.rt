@@ -29,14 +29,22 @@ pub fn change_in<'p>(bytes: &'p [u8], frame: &FlatFrame) -> Option<Change<'p>>
     ensures { (c : Configuration) (o : Order) → IsFlat c o bytes.now frame.now →
         option_map plain result ≡ changes.change_of c o bytes.now }
 {
-    match frame.read {
-        PERF_RECORD_MMAP => Some(Change::Map(mmap_in(bytes, frame))),
-        PERF_RECORD_COMM => Some(Change::Comm(comm_in(bytes, frame))),
-        PERF_RECORD_FORK => Some(Change::Fork(fork_in(frame))),
-        PERF_RECORD_MMAP2 => Some(Change::Map(mmap2_in(bytes, frame))),
-        PERF_RECORD_KSYMBOL => Some(Change::Symbol(symbol_in(bytes, frame))),
-        _ => None,
+    if frame.read == PERF_RECORD_MMAP {
+        return Some(Change::Map(mmap_in(bytes, frame)));
     }
+    if frame.read == PERF_RECORD_COMM {
+        return Some(Change::Comm(comm_in(bytes, frame)));
+    }
+    if frame.read == PERF_RECORD_FORK {
+        return Some(Change::Fork(fork_in(frame)));
+    }
+    if frame.read == PERF_RECORD_MMAP2 {
+        return Some(Change::Map(mmap2_in(bytes, frame)));
+    }
+    if frame.read == PERF_RECORD_KSYMBOL {
+        return Some(Change::Symbol(symbol_in(bytes, frame)));
+    }
+    None
 }
 
 // The name of a thread, in a COMM.

@@ -3,7 +3,7 @@
 use crate::tests::recording::recording;
 use perf_file::{OpenError, Recording};
 use perf_history::{File, Name, Place};
-use perf_walk::{Call, Found, Walk, bytes_at, change_in, push_calls};
+use perf_walk::{Call, Found, Walk, bytes_at, change_in, push_calls, sample_in};
 use std::alloc::{AllocError, Global};
 use std::process::Abort;
 
@@ -35,8 +35,36 @@ fn push_place(
     text.extend_from_slice(offset.as_bytes())
 }
 
+// Appends the sample of a frame, if it is one, and the calls of its chain.
+fn push_sample(
+    alloc: Global,
+    text: &mut Vec<u8>,
+    walk: &Walk<'_, '_>,
+    found: &Found<'_>,
+) -> Result<(), AllocError> {
+    let Some(sample) = sample_in(walk.frame()) else {
+        return Ok(());
+    };
+    let numbers = format!(in alloc;
+        " {} {} {:#x} {:?}",
+        sample.pid, sample.period, sample.ip, sample.mode
+    )?;
+    text.extend_from_slice(numbers.as_bytes())?;
+    let mut calls: Vec<Call> = Vec::new(alloc);
+    push_calls(
+        &mut calls,
+        walk.recording().order(),
+        found.bytes,
+        walk.frame(),
+    )?;
+    for call in &calls {
+        push_place(alloc, text, walk.place(sample.pid, call.mode, call.address))?;
+    }
+    Ok(())
+}
+
 // Appends the line of a frame: its event, type, time and size, whether it states something about
-// threads and memory, the name of its thread, and the calls of its chain.
+// threads and memory, the name of its thread, and the sample that it is.
 fn push_line(
     alloc: Global,
     text: &mut Vec<u8>,
@@ -54,15 +82,8 @@ fn push_line(
         states
     )?;
     text.extend_from_slice(start.as_bytes())?;
-    push_name(text, walk.history().comm(frame.tid))?;
-    let mut calls: Vec<Call> = Vec::new(alloc);
-    push_calls(&mut calls, walk.recording().order(), found.bytes, frame)?;
-    if frame.type_ == 9 {
-        for call in &calls {
-            let place = walk.history().place(frame.pid, call.mode, call.address);
-            push_place(alloc, text, place)?;
-        }
-    }
+    push_name(text, walk.comm(frame.tid))?;
+    push_sample(alloc, text, walk, found)?;
     text.extend_from_slice(b"\n")
 }
 
@@ -85,11 +106,11 @@ const LINES: &[u8] = b"0 3 5 40 true sh
 0 7 20 48 true sh
 0 10 25 96 true sh
 0 17 26 48 true swapper
-0 9 30 88 false sh bpf_x+0x10 /bin/sh+0x210 /bin/ls+0x20
+0 9 30 88 false sh 8 11 0xffffffff81000010 Kernel bpf_x+0x10 /bin/sh+0x210 /bin/ls+0x20
 0 3 40 40 true ls
-0 9 50 48 false ls
+0 9 50 48 false ls 8 12 0x3040 User
 0 7 60 48 true ls
-0 9 70 56 false ls -
+0 9 70 56 false ls 9 13 0x1010 User -
 0 9 0 40 false swapper
 0 17 90 48 true swapper
 ";

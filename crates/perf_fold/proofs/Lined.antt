@@ -1,0 +1,24 @@
+-- The lines of the bytes of a file.
+use Rattle.std.proofs.Common.{◌≡◌, ℕ, ◌<◌, List, length, get_or, subst}
+use Rattle.std.specs.Prelude.{Ok}
+use Rattle.perf_file.specs.Forms.{opened, event_name}
+use Rattle.perf_file.specs.Names.{name_view}
+use Rattle.perf_file.specs.Opened.{event_view}
+use Rattle.perf_file.specs.Views.{view}
+use Rattle.perf_file.specs.declared.events.Event.{Event}
+use Rattle.perf_file.specs.declared.opening.Recording.{Recording}
+use Rattle.perf_flame.specs.Lines.{Line}
+use Rattle.perf_fold.specs.EventNames.{own_names}
+use Rattle.perf_fold.specs.Folds.{IsFoldOf}
+use Rattle.perf_fold.specs.Written.{AreLinesOf}
+use Rattle.perf_fold.specs.declared.folding.Choice.{Choice}
+use Rattle.perf_fold.proofs.NamesAlike.{named_by}
+
+-- each event has the name that the file states
+abbrev pub IsNamed : List ℕ → Recording → Type 0
+IsNamed bytes r = (n : ℕ) (d : Event) → n < length r.events.items → name_view (get_or r.events.items n d).name ≡ event_name bytes (view r) n (event_view (get_or r.events.items n d))
+
+pub lines_of : (how : Choice) (bytes : List ℕ) (r : Recording) (lines : List Line) → opened bytes ≡ Ok (view r) → IsNamed bytes r → IsFoldOf how (own_names r.events.items) (view r) lines
+    → AreLinesOf how bytes lines
+lines_of how bytes r lines found named fold =
+    (view r, found, subst (λ names. IsFoldOf how names (view r) lines) (named_by (event_name bytes (view r)) r.events.items named) fold)
