@@ -51,9 +51,9 @@ answer_is c o frame s e = answer_if (answer_of_frame c o frame) s e
 
 -- the flat frame of a sample has its type
 nine : (c : Configuration) (o : Order) (frame : List ℕ) (s : SampleValue) (f : FlatFrame) → IsFlat c o frame f → sample_of c o frame ≡ Some s → (b : Bool) → (f.read == 9) ≡ b → f.read ≡ 9
-nine c o frame s f is e true yes = eqb-true f.read 9 yes
-nine c o frame s f is e false no =
-    let other : f.read ≡ 9 → ⊥ = λ same. let t : (9 == 9) ≡ false = ap (λ n. n == 9) (sym same) ∙ no in absurd (cc) in
+nine c o frame s f is e true holds = eqb-true f.read 9 holds
+nine c o frame s f is e false fails =
+    let other : f.read ≡ 9 → ⊥ = λ same. let t : (9 == 9) ≡ false = ap (λ n. n == 9) (sym same) ∙ fails in absurd (cc) in
     let none : sample_of c o frame ≡ None = of_no_sample c o frame f is other in
     absurd (cc)
 

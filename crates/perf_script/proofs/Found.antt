@@ -84,15 +84,15 @@ none_text f labels older m misc e = ap (text_if_some f labels older m) (none_of 
 read_parts : (older first second : List Reading) (s : Shown) → (has_bit s.fields 4 ≡ true → first ≡ second) → read_by older first s ≡ read_by older second s
 read_parts older first second s same = go (has_bit s.fields 4) refl where
   go : (b : Bool) → has_bit s.fields 4 ≡ b → read_by older first s ≡ read_by older second s
-  go true yes = ap (λ rs. read_by older rs s) (same yes)
-  go false no = rw no refl
+  go true holds = ap (λ rs. read_by older rs s) (same holds)
+  go false fails = rw fails refl
 
 text_parts : (labels : List EventLabel) (ids : List IdOfEvent) (older first second : List Reading) (event : ℕ) (known : List Change) (s : Shown) → (has_bit s.fields 4 ≡ true → first ≡ second)
     → shown_text labels ids older first event known s ≡ shown_text labels ids older second event known s
 text_parts labels ids older first second event known s same = go (has_bit s.fields 4) refl where
   go : (b : Bool) → has_bit s.fields 4 ≡ b → shown_text labels ids older first event known s ≡ shown_text labels ids older second event known s
-  go true yes = ap (λ rs. shown_text labels ids older rs event known s) (same yes)
-  go false no = rw no refl
+  go true holds = ap (λ rs. shown_text labels ids older rs event known s) (same holds)
+  go false fails = rw fails refl
 
 -- ---- what is shown
 
@@ -102,15 +102,15 @@ shown_with fields guest sample calls = record { fields = fields; guest = guest; 
 -- what was found of a sample in a frame
 pub record IsFound (f : File) (m : Moment) (flat : FlatFrame) (state : State) (x : Sample) : Type 0 where
   pub sample : SampleValue
-  pub flat : IsFlat m.config (order_of f.order) m.frame flat
+  pub states : IsFlat m.config (order_of f.order) m.frame flat
   pub is : sample_at f m ≡ Some sample
   pub view : x ≡ sample_view flat.misc sample
   pub parts : HasParts m.config.read_format sample flat.present state
 
 shown_is : (f : File) (m : Moment) (flat : FlatFrame) (state : State) (x : Sample) → (h : IsFound f m flat state x) → shown_by state flat.present (is_guest flat.misc) x ≡ shown_at f m h.sample
 shown_is f m flat state x h =
-    let misc : flat.misc ≡ (header_of (order_of f.order) m.frame).misc = h.flat.header.misc in
-    ap (λ n. shown_with n (is_guest flat.misc) x state.calls.items) (fields_of m.config (order_of f.order) m.frame h.sample flat h.flat h.is)
+    let misc : flat.misc ≡ (header_of (order_of f.order) m.frame).misc = h.states.header.misc in
+    ap (λ n. shown_with n (is_guest flat.misc) x state.calls.items) (fields_of m.config (order_of f.order) m.frame h.sample flat h.states h.is)
     ∙ ap (λ y. shown_with (sample_present m.config) (is_guest flat.misc) y state.calls.items) h.view
     ∙ ap (λ n. shown_with (sample_present m.config) (is_guest n) (sample_view n h.sample) state.calls.items) misc
     ∙ ap (λ cs. shown_with (sample_present m.config) (is_guest (header_of (order_of f.order) m.frame).misc) (sample_view (header_of (order_of f.order) m.frame).misc h.sample) cs) h.parts.calls

@@ -1,7 +1,8 @@
 -- The counters that a sample has read, in its bytes and in its flat frame.
-use Rattle.std.proofs.Common.{◌≡◌, ℕ, zero, suc, ◌+◌, ◌*◌, ◌/◌, ◌%◌, ◌^◌, ◌≤◌, ◌==◌, ◌&&◌, Bool, true, false, List, [], ◌∷◌, length, map, take, drop, get_or, refl, sym, ◌∙◌, ap, subst, arith, if◌then◌else◌}
+use Rattle.std.proofs.Common.{◌≡◌, ℕ, zero, suc, ◌+◌, ◌-◌, ◌*◌, ◌/◌, ◌%◌, ◌^◌, ◌≤◌, ◌==◌, ◌&&◌, Bool, true, false, List, [], ◌∷◌, length, map, take, drop, get_or, refl, sym, ◌∙◌, ap, subst, arith, if◌then◌else◌, inl, inr}
 use Rattle.std.specs.Prelude.{Option, Some, None, Result, Ok, nat_le, option_map, option_to_list}
 use Rattle.std.proofs.lemmas.Bool.{le-leb}
+use Rattle.std.proofs.lemmas.Bool.Decides.{eqb_tells}
 use Rattle.std.proofs.lemmas.List.{length-take-le, length-drop, drop-drop}
 use Rattle.perf_base.specs.Configuration.{Configuration, under_misc}
 use Rattle.perf_base.specs.Header.{header_of}
@@ -84,8 +85,8 @@ values_formed : (c : Configuration) (o : Order) (bytes : List ℕ) (s : ℕ) →
 unfolding values
 values_formed c o bytes s = go (has_group c.read_format) refl where
   go : (b : Bool) → has_group c.read_format ≡ b → IsFormed c.read_format (Some (value o bytes s (values c)))
-  go true yes = rw yes (λ _. record { with_id = refl; with_lost = refl })
-  go false no = rw no (λ yes. absurd (cc))
+  go true holds = rw holds (λ _. record { with_id = refl; with_lost = refl })
+  go false fails = rw fails (λ holds. absurd (cc))
 
 present_some : {A : Type 0} (b : Bool) (p q : Parts A) → present_if b p ≡ Some q → q ≡ p
 present_some true p q e = cc
@@ -110,22 +111,22 @@ sample_value c o frame s f is e =
     (found.0, cc)
 
 formed_group : (r : ℕ) (x : Option FieldValue) (read : GroupRead) → IsFormed r x → group_in x ≡ Some read → has_group r ≡ true → IsOfFormat r read
-formed_group r (Some (group_is g)) read formed e yes = let same : g ≡ read = cc in subst (IsOfFormat r) same (formed yes)
-formed_group r (Some (number_is n)) read formed e yes = absurd (cc)
-formed_group r (Some (task_is pid tid)) read formed e yes = absurd (cc)
-formed_group r (Some (numbers_are ns)) read formed e yes = absurd (cc)
-formed_group r (Some (bytes_are bs)) read formed e yes = absurd (cc)
-formed_group r (Some (branches_are i bs)) read formed e yes = absurd (cc)
-formed_group r (Some (registers_are rs)) read formed e yes = absurd (cc)
-formed_group r None read formed e yes = absurd (cc)
+formed_group r (Some (group_is g)) read formed e holds = let same : g ≡ read = cc in subst (IsOfFormat r) same (formed holds)
+formed_group r (Some (number_is n)) read formed e holds = absurd (cc)
+formed_group r (Some (task_is pid tid)) read formed e holds = absurd (cc)
+formed_group r (Some (numbers_are ns)) read formed e holds = absurd (cc)
+formed_group r (Some (bytes_are bs)) read formed e holds = absurd (cc)
+formed_group r (Some (branches_are i bs)) read formed e holds = absurd (cc)
+formed_group r (Some (registers_are rs)) read formed e holds = absurd (cc)
+formed_group r None read formed e holds = absurd (cc)
 
 group_of_format : (c : Configuration) (o : Order) (frame : List ℕ) (s : SampleValue) (f : FlatFrame) (read : GroupRead) → IsFlat c o frame f → sample_of c o frame ≡ Some s
     → (getters_of s).values ≡ Some read → has_group c.read_format ≡ true → IsOfFormat c.read_format read
-group_of_format c o frame s f read is e some yes =
+group_of_format c o frame s f read is e some holds =
     let made = sample_value c o frame s f is e in
     let formed : IsFormed c.read_format (get_or s 9 None) =
     subst (λ (vs : SampleValue). IsFormed c.read_format (get_or vs 9 None)) (sym made.1) (sample_formed (under_misc (header_of o frame).misc c) o made.0) in
-    formed_group c.read_format (get_or s 9 None) read formed some yes
+    formed_group c.read_format (get_or s 9 None) read formed some holds
 
 -- ---- the counters of a group, in its numbers
 
@@ -191,45 +192,59 @@ group_here o frame s read has =
     ∙ ap (map reading_of) has.there
     )
 
+bytes_none : (frame : List ℕ) → bytes_at frame no_span ≡ []
+bytes_none frame = let inside : nat_le (0 + 0) (length frame) ≡ true = le-leb (0 + 0) (length frame) (omega arith) in rw inside refl
+
+none_in : (o : Order) (wi wl : Bool) → blocks.readings_in o wi wl (length {A = ℕ} [] / (8 * block_len wi wl)) [] ≡ []
+none_in o true true = refl
+none_in o true false = refl
+none_in o false true = refl
+none_in o false false = refl
+
 group_none : (o : Order) (wi wl : Bool) (frame : List ℕ) → blocks.group_at o wi wl frame no_span ≡ []
-group_none o true true frame = refl
-group_none o true false frame = refl
-group_none o false true frame = refl
-group_none o false false frame = refl
+group_none o wi wl frame = ap (λ bytes. blocks.readings_in o wi wl (length bytes / (8 * block_len wi wl)) bytes) (bytes_none frame) ∙ none_in o wi wl
+
+-- the counters of a read, if there is one
+abbrev read_or_none : (r : ℕ) → Option GroupRead → List Reading
+read_or_none r read = elim read [ Some g ↦ readings_in (has_group r) g | None ↦ [] ]
 
 counters_here : (r : ℕ) (o : Order) (frame : List ℕ) (s : Span) (read : Option GroupRead) → has_group r ≡ true → ((g : GroupRead) → read ≡ Some g → IsOfFormat r g) → HasCounters r o frame s read
-    → blocks.group_at o (has_counter_id r) (has_lost r) frame s ≡ (elim read [ Some g ↦ readings_in (has_group r) g | None ↦ [] ])
-counters_here r o frame s (Some g) yes formed has =
+    → blocks.group_at o (has_counter_id r) (has_lost r) frame s ≡ read_or_none r read
+counters_here r o frame s (Some g) holds formed has =
     let is = formed g refl in
-    let entries : HasEntries o frame s g = rw yes at has in
-    rw yes (ap (λ wi. blocks.group_at o wi (has_lost r) frame s) (sym is.with_id) ∙ ap (λ wl. blocks.group_at o g.with_id wl frame s) (sym is.with_lost) ∙ group_here o frame s g entries)
-counters_here r o frame s None yes formed none = ap (blocks.group_at o (has_counter_id r) (has_lost r) frame) none ∙ group_none o (has_counter_id r) (has_lost r) frame
+    let entries : HasEntries o frame s g = rw holds at has in
+    rw holds (ap (λ wi. blocks.group_at o wi (has_lost r) frame s) (sym is.with_id) ∙ ap (λ wl. blocks.group_at o g.with_id wl frame s) (sym is.with_lost) ∙ group_here o frame s g entries)
+counters_here r o frame s None holds formed none = ap (blocks.group_at o (has_counter_id r) (has_lost r) frame) none ∙ group_none o (has_counter_id r) (has_lost r) frame
 
 -- ---- the one counter, in the numbers of a flat frame
 
 abbrev single_of : (count : ℕ) → List ℕ → List Reading
 single_of count numbers = if count == 1 then record { id = get_or numbers 1 0; value = get_or numbers 0 0 } ∷ [] else []
 
+two_or_more : (n : ℕ) (numbers : List ℕ) → single_of (suc (suc n)) numbers ≡ []
+two_or_more n numbers = elim (eqb_tells (suc (suc n)) 1) [
+  | inl is ↦ absurd (omega (arith, is.1))
+  | inr is ↦ rw is.0 refl
+]
+
 single_entry : (entries : List GroupEntry) → single_of (length entries) (group_entry_numbers (only_entry entries)) ≡ option_to_list (option_map reading_of (only_entry entries))
 single_entry [] = refl
 single_entry (e ∷ []) = refl
-single_entry (e ∷ d ∷ es) = refl
+single_entry (e ∷ d ∷ es) = two_or_more (length es) (group_entry_numbers None)
 
-single_read : (r : ℕ) (read : Option GroupRead) → has_group r ≡ false → (elim read [
-  | Some g ↦ single_of (length g.entries) (group_entry_numbers (if has_group r then None else only_entry g.entries))
-  | None ↦ []
-]) ≡ (elim read [ Some g ↦ readings_in (has_group r) g | None ↦ [] ])
-single_read r (Some g) no = rw no (single_entry g.entries)
-single_read r None no = refl
+-- the counter of a read, by its numbers, if there is one
+abbrev single_or_none : (r : ℕ) → Option GroupRead → List Reading
+single_or_none r read = elim read [ Some g ↦ single_of (length g.entries) (group_entry_numbers (if has_group r then None else only_entry g.entries)) | None ↦ [] ]
+
+single_read : (r : ℕ) (read : Option GroupRead) → has_group r ≡ false → single_or_none r read ≡ read_or_none r read
+single_read r (Some g) fails = rw fails (single_entry g.entries)
+single_read r None fails = refl
 
 -- by the numbers of a sample
-single_numbers : (r : ℕ) (s : SampleValue) (read : Option GroupRead) → (getters_of s).values ≡ read → blocks.single_in (filled (sample_numbers r s)) ≡ (elim read [
-  | Some g ↦ single_of (length g.entries) (group_entry_numbers (if has_group r then None else only_entry g.entries))
-  | None ↦ []
-])
+single_numbers : (r : ℕ) (s : SampleValue) (read : Option GroupRead) → (getters_of s).values ≡ read → blocks.single_in (filled (sample_numbers r s)) ≡ single_or_none r read
 unfolding filled
 single_numbers r s (Some g) e = go (if has_group r then None else only_entry g.entries) refl where
-  go : (x : Option GroupEntry) → (if has_group r then None else only_entry g.entries) ≡ x → blocks.single_in (filled (sample_numbers r s)) ≡ single_of (length g.entries) (group_entry_numbers (if has_group r then None else only_entry g.entries))
+  go : (x : Option GroupEntry) → (if has_group r then None else only_entry g.entries) ≡ x → blocks.single_in (filled (sample_numbers r s)) ≡ single_or_none r (Some g)
   go (Some x) is = rw e (rw is refl)
   go None is = rw e (rw is refl)
 single_numbers r s None e = rw e refl
@@ -261,12 +276,12 @@ format_kept c o frame s f is e there =
 
 pub readings_group : (c : Configuration) (o : Order) (frame : List ℕ) (s : SampleValue) (f : FlatFrame) → IsFlat c o frame f → sample_of c o frame ≡ Some s → has_group c.read_format ≡ true
     → blocks.group_at o (has_counter_id c.read_format) (has_lost c.read_format) frame (span_at f.spans 2) ≡ readings_of c.read_format s
-readings_group c o frame s f is e yes =
+readings_group c o frame s f is e holds =
     let states = (flat_record c o frame (sample_is s) f is (answer_is c o frame s e)).1 in
-    counters_here c.read_format o frame (span_at f.spans 2) (getters_of s).values yes (λ g some. group_of_format c o frame s f g is e some yes) states.1.values
+    counters_here c.read_format o frame (span_at f.spans 2) (getters_of s).values holds (λ g some. group_of_format c o frame s f g is e some holds) states.1.values
 
 pub readings_single : (c : Configuration) (o : Order) (frame : List ℕ) (s : SampleValue) (f : FlatFrame) → IsFlat c o frame f → sample_of c o frame ≡ Some s → has_group c.read_format ≡ false
     → blocks.single_in f.numbers ≡ readings_of c.read_format s
-readings_single c o frame s f is e no =
+readings_single c o frame s f is e fails =
     let states = (flat_record c o frame (sample_is s) f is (answer_is c o frame s e)).1 in
-    ap blocks.single_in states.0.numbers ∙ single_numbers c.read_format s (getters_of s).values refl ∙ single_read c.read_format (getters_of s).values no
+    ap blocks.single_in states.0.numbers ∙ single_numbers c.read_format s (getters_of s).values refl ∙ single_read c.read_format (getters_of s).values fails

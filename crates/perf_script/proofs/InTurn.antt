@@ -27,7 +27,7 @@ found_some f o None found flat is frame = absurd frame
 pub moment_found : (f : File) (e : Entry) (known : List Change) (found : Found) (flat : FlatFrame) → Finds f (moment_at f e known) (Some found) flat → IsMoment f e known found flat
 moment_found f e known found flat finds =
     let some = found_some f (moment_at f e known) (moment_at f e known) found flat refl finds in
-    record { moment = some.0; is = some.1.0; frame = some.1.1 }
+    record { moment = some.0; is = some.1; frame = some.2 }
 
 none_if : (f : File) (o : Option Moment) (flat : FlatFrame) → Finds f o None flat → o ≡ None
 none_if f (Some m) flat frame = absurd frame

@@ -23,7 +23,7 @@ use Rattle.perf_script.specs.Chains.{placed_line, call_line, call_lines}
 use Rattle.perf_script.specs.Counters.{counters_text, counter_text, moved_text}
 use Rattle.perf_script.specs.Labels.{EventLabel, label_at}
 use Rattle.perf_script.specs.Moved.{moved}
-use Rattle.perf_script.specs.SampleText.{Shown, text_if, is_chained, head_columns, cpu_column_if, time_column_if, code_columns_if, address_columns, chain_lines, own_text, sample_text}
+use Rattle.perf_script.specs.SampleText.{Shown, text_if, is_chained, head_columns, cpu_column_if, time_column_if, code_columns_if, address_columns, chain_lines, event_columns, own_text, sample_text}
 use Rattle.perf_script.specs.ScriptText.{plain_text, shown_text, period_of, has_counters}
 use Rattle.perf_script.specs.declared.readings.Reading.{Reading}
 
@@ -103,8 +103,8 @@ code_same changes s =
 
 own_same : (label : List ℕ) (period : ℕ) (changes : List Change) (s : Shown) → own_text label period (map plain changes) s ≡ own_text label period changes s
 own_same label period changes s =
-    ap (λ head. head ++ (period_column period ++ (label ++ (code_columns_if (map plain changes) s ++ codes "\n")))) (head_same changes s)
-    ∙ ap (λ code. head_columns changes s ++ (period_column period ++ (label ++ (code ++ codes "\n")))) (code_same changes s)
+    ap (λ head. head ++ (event_columns label period ++ (code_columns_if (map plain changes) s ++ codes "\n"))) (head_same changes s)
+    ∙ ap (λ code. head_columns changes s ++ (event_columns label period ++ (code ++ codes "\n"))) (code_same changes s)
 
 sample_same : (label : List ℕ) (period : ℕ) (changes : List Change) (s : Shown) → sample_text label period (map plain changes) s ≡ sample_text label period changes s
 sample_same label period changes s = ap (λ t. if s.guest then [] else t) (own_same label period changes s)

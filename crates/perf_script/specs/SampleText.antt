@@ -63,10 +63,18 @@ code_columns known s = if has_bit s.fields 5 then chain_lines known s else addre
 abbrev pub code_columns_if : List Change → Shown → List ℕ
 code_columns_if known s = text_if (has_bit s.fields 0) (code_columns known s)
 
+-- the period, and the label of the event
+abbrev pub event_columns : (label : List ℕ) → (period : ℕ) → List ℕ
+event_columns label period = period_column period ++ label
+
+-- the end of the text
+abbrev pub end_columns : List Change → Shown → List ℕ
+end_columns known s = code_columns_if known s ++ codes "\n"
+
 -- the text of a sample of the machine itself, with the label of its event, and a period
 abbrev pub own_text : (label : List ℕ) → (period : ℕ) → List Change → Shown → List ℕ
 own_text label period known s =
-    head_columns known s ++ (period_column period ++ (label ++ (code_columns_if known s ++ codes "\n")))
+    head_columns known s ++ (event_columns label period ++ end_columns known s)
 
 -- the text of a sample: those of guests have none
 abbrev pub sample_text : (label : List ℕ) → (period : ℕ) → List Change → Shown → List ℕ

@@ -201,6 +201,29 @@ pub struct Heading<'a> {
     pub period: u64,
 }
 
+// Appends the period, and the label of the event.
+fn push_event(text: &mut Vec<u8>, heading: Heading<'_>) -> Result<(), AllocError>
+    ensures { OnOk result (text.new.items ≡ text.old.items ++ samples.event_columns
+        heading.entry.label.now heading.entry.period) }
+{
+    push_period(text, heading.period)?;
+    text.extend_from_slice(heading.label)
+}
+
+// Appends the end of the text.
+fn push_end(
+    text: &mut Vec<u8>,
+    history: &History<'_>,
+    shown: &Sampled<'_>,
+) -> Result<(), AllocError>
+    ensures { (changes : List Change) → IsHistory history.now changes →
+        OnOk result (text.new.items ≡ text.old.items
+        ++ samples.end_columns changes (shown_in shown.now)) }
+{
+    push_code_if(text, history, shown)?;
+    text.extend_from_slice(b"\n")
+}
+
 // Appends the text of a sample of the machine itself, with a heading.
 fn push_own(
     text: &mut Vec<u8>,
@@ -213,10 +236,8 @@ fn push_own(
         heading.entry.label.now heading.entry.period changes (shown_in shown.now)) }
 {
     push_head(text, history, shown)?;
-    push_period(text, heading.period)?;
-    text.extend_from_slice(heading.label)?;
-    push_code_if(text, history, shown)?;
-    text.extend_from_slice(b"\n")
+    push_event(text, heading)?;
+    push_end(text, history, shown)
 }
 
 /// Appends the text of a sample, with a heading. Those of guests have none, as `perf script` leaves them

@@ -18,8 +18,8 @@ returns-then-has_flag c = λ config s flat is there.
     let bytes : List ℕ = c.args.bytes.now in
     let old : List Reading = c.args.readings.now.items in
     let format = format_kept config o bytes s frame flat is there in
-    let yes : has_group config.read_format ≡ true = ap has_group (sym format) ∙ (sym c.has_flag.ensures ∙ c.if-has_flag.true) in
-    on_ok_weaker c.push_entries.result (λ e. e ∙ ap (λ rs. old ++ rs) (ap (λ r. group_at o (has_bit r 2) (has_bit r 4) bytes (span_at frame.spans 2)) format ∙ readings_group config o bytes s frame flat is yes))
+    let holds : has_group config.read_format ≡ true = ap has_group (sym format) ∙ (sym c.has_flag.ensures ∙ c.if-has_flag.true) in
+    on_ok_weaker c.push_entries.result (λ e. e ∙ ap (λ rs. old ++ rs) (ap (λ r. group_at o (has_bit r 2) (has_bit r 4) bytes (span_at frame.spans 2)) format ∙ readings_group config o bytes s frame flat is holds))
     c.push_entries.ensures
 
 pub returns-else-has_flag : goal.returns-else-has_flag
@@ -29,5 +29,5 @@ returns-else-has_flag c = λ config s flat is there.
     let bytes : List ℕ = c.args.bytes.now in
     let old : List Reading = c.args.readings.now.items in
     let format = format_kept config o bytes s frame flat is there in
-    let no : has_group config.read_format ≡ false = ap has_group (sym format) ∙ (sym c.has_flag.ensures ∙ c.if-has_flag.false) in
-    on_ok_weaker c.push_single.result (λ e. e ∙ ap (λ rs. old ++ rs) (readings_single config o bytes s frame flat is no)) c.push_single.ensures
+    let fails : has_group config.read_format ≡ false = ap has_group (sym format) ∙ (sym c.has_flag.ensures ∙ c.if-has_flag.false) in
+    on_ok_weaker c.push_single.result (λ e. e ∙ ap (λ rs. old ++ rs) (readings_single config o bytes s frame flat is fails)) c.push_single.ensures

@@ -20,12 +20,12 @@ loop-reading-preserved c = λ f all changes older events history counted.
     let before = c.loop-reading.invariant f all changes older events history counted in
     let now : List Reading = before.0 in
     let old : List ℕ = c.loop-reading.text.items in
-    let read = c.in_ok-far.ensures now before.1.0 in
+    let read = c.in_ok-far.ensures now before.1 in
     let cons = drop_next readings i _ (omega (arith, c.loop-reading-test.true)) in (
       _,
       read.1,
-      ap (read_after now) (sym cons) ∙ before.1.1.0,
-      counters_more all (table_of f.events) changes s now (drop i readings) (drop (i + 1) readings) _ old _ _ cons before.1.1.1
+      ap (read_after now) (sym cons) ∙ before.2,
+      counters_more all (table_of f.events) changes s now (drop i readings) (drop (i + 1) readings) _ old _ _ cons before.3
           (c.in_ok-push_counter.ensures changes history ∙ ap (λ t. old ++ t) (counter_same f all c.args.events.now changes s now _ _ events read.0)),
     )
 
@@ -37,6 +37,6 @@ returns c = λ f all changes older events history counted.
     let done = c.loop-reading.invariant f all changes older events history counted in
     let end : drop i readings ≡ [] = drop_all i readings (omega (arith, c.loop-reading-test.false)) in
     let text : List ℕ = c.loop-reading.text.items in (
-      subst (IsCounted c.loop-reading.known) (ap (read_after done.0) (sym end) ∙ done.1.1.0) done.1.0,
-      sym (append-nil text) ∙ ap (λ rs. text ++ counters_text all (table_of f.events) changes s done.0 rs) (sym end) ∙ done.1.1.1,
+      subst (IsCounted c.loop-reading.known) (ap (read_after done.0) (sym end) ∙ done.2) done.1,
+      sym (append-nil text) ∙ ap (λ rs. text ++ counters_text all (table_of f.events) changes s done.0 rs) (sym end) ∙ done.3,
     )

@@ -13,7 +13,7 @@ use Rattle.perf_script.proofs.script.Script.push.Goals as goal
 pub returns-clause-pushes : goal.returns-clause-pushes
 returns-clause-pushes c = λ f all m older is events frame past counted.
     let old = c.args.self.now in
-    let ordered = ap (λ b. (view b.now).order) c.recording.ensures ∙ ap (λ (g : File). g.order) is in
+    let ordered = ap (λ b. (view b).order) c.recording.ensures ∙ ap (λ (g : File). g.order) is in
     let found = subst (λ (g : FlatFrame). IsFrameOf f m c.args.found.now g) (sym c.frame-2.ensures) frame in
     let known = subst (λ (h : History). IsPast h m.known) (sym c.history.ensures) past in
     on_ok_weaker c.push_found.result (λ pair. record {
