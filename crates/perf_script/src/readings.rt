@@ -1,6 +1,6 @@
 //! Counters that are read in samples.
 
-ghost use Rattle.std.specs.Prelude.{◌≡◌, ◌++◌, ◌∷◌, ◌*◌, ◌/◌, ◌<◌, ◌≤◌, Some, OnOk, IfOk, List, length, take, true};
+ghost use Rattle.std.specs.Prelude.{◌≡◌, ◌++◌, ◌∷◌, ◌*◌, ◌/◌, ◌<◌, ◌≤◌, Some, OnOk, IfOk, List, length, drop, take, true};
 ghost use Rattle.perf_base.specs.Configuration.{Configuration};
 ghost use Rattle.perf_base.specs.Dynamic.{order_of};
 ghost use Rattle.perf_flat.specs.Flat.{IsFlat};
@@ -70,6 +70,14 @@ fn block_len(with_id: bool, with_lost: bool) -> usize
     }
 }
 
+// The bytes after so many.
+fn bytes_after(bytes: &[u8], len: usize) -> &[u8]
+    requires { len ≤ length bytes.now }
+    ensures { result.now ≡ drop len bytes.now }
+{
+    &bytes[len..]
+}
+
 // The first counter of a group.
 fn first_reading(order: Dynamic, with_id: bool, bytes: &[u8]) -> Reading
     requires value { 8 ≤ length bytes.now }
@@ -104,7 +112,7 @@ fn push_group(
     let mut left = bytes;
     while count > 0 {
         readings.push(first_reading(order, with_id, left))?;
-        left = &left[len..];
+        left = bytes_after(left, len);
         count -= 1;
     }
     Ok(())

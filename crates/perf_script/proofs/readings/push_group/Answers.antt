@@ -1,4 +1,4 @@
-use Rattle.std.proofs.Common.{◌≡◌, ℕ, suc, ◌-◌, ◌*◌, ◌++◌, ◌∷◌, [], List, drop, sym, ◌∙◌, ap, append_assoc, arith}
+use Rattle.std.proofs.Common.{◌≡◌, ℕ, suc, ◌-◌, ◌*◌, ◌/◌, ◌++◌, ◌∷◌, [], List, drop, length, sym, ◌∙◌, ap, append_assoc, arith}
 use Rattle.perf_base.specs.Dynamic.{order_of}
 use Rattle.perf_base.specs.Order.{Order}
 use Rattle.perf_types.specs.GroupEntry.{block_len}
@@ -18,9 +18,12 @@ loop-count-preserved c =
     let is : len ≡ 8 * block_len wi wl = ap (λ n. 8 * n) c.block_len-len.ensures.value in
     let some : count ≡ suc (count - 1) = omega (arith, c.loop-count-test.true) in
     let old : List Reading = c.loop-count.readings.items in
-    let rest : List Reading = readings_in o wi wl (count - 1) (drop len left) in (
-      count_less wi wl count len left is c.loop-count-test.true c.loop-count.invariant.0,
+    let after : List ℕ = c.bytes_after-left.result.now in
+    let dropped : after ≡ drop len left = c.bytes_after-left.ensures in
+    let rest : List Reading = readings_in o wi wl (count - 1) after in (
+      count_less wi wl count len left is c.loop-count-test.true c.loop-count.invariant.0 ∙ ap (λ bytes. length bytes / (8 * block_len wi wl)) (sym dropped),
       ap (λ rs. rs ++ rest) c.in_ok-push.ensures.items ∙ append_assoc old (c.first_reading.result ∷ []) rest
           ∙ ap (λ (r : Reading). old ++ (r ∷ rest)) c.first_reading.ensures
+          ∙ ap (λ bytes. old ++ (first_reading o wi left ∷ readings_in o wi wl (count - 1) bytes)) dropped
           ∙ ap (λ rs. old ++ rs) (sym (readings_more o wi wl count len left is some)) ∙ c.loop-count.invariant.1,
     )
