@@ -363,7 +363,8 @@ impl<'a, 'p> Script<'a, 'p> {
             IsUnderWay f all (entry.now ∷ left) any whole self.old →
             OnOk result (IsUnderWay f all left any whole self.new) }
     {
-        match self.walk.step(entry)? {
+        let next = self.walk.step(entry)?;
+        match next {
             Some(found) => self.push(events, &found),
             None => Ok(()),
         }
