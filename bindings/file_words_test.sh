@@ -83,6 +83,24 @@ for name in machine group killed; do
     fi
 done
 
+# The text of the samples, as perf prints it.
+for name in events pipe machine group; do
+    check 0 "$examples/$name.script" script "$examples/$name.data"
+done
+check 0 "$examples/events.script" script "$examples/big-endian.data"
+# Of a file whose perf was killed perf prints nothing: a line for each sample, which have no chain.
+"${program[@]}" script "$examples/killed.data" >"$work/found.out" && [ "$(wc -l <"$work/found.out")" = "$(grep -c ' Sample ' "$examples/killed.time")" ] || {
+    failed=$((failed + 1))
+    echo "FAILED: script of killed.data"
+}
+tried=$((tried + 1))
+# A sample of a guest has no line, as for perf: the third is made one by its misc.
+cp "$examples/machine.data" "$work/damaged"
+at=$(grep ' Sample ' "$examples/machine.time" | sed -n 3p | cut -d ' ' -f 2)
+damage $((at + 4)) '\4'
+sed 3d "$examples/machine.script" >"$work/output"
+check 0 "$work/output" script "$work/damaged"
+
 # What perf states about the machine and the command, before the events: the machine is `vm`, and the words are those of
 # examples/record-events.sh. header NAME FILE [WORD ..]
 header() {
@@ -241,11 +259,11 @@ printf 'a 18446744073709551615\nb 1' >"$work/damaged"
 tells "$work/damaged: the counts have a sum of 2^64 or more: leave lines out" flame --folded "$work/damaged"
 
 # Other words, and help.
-for words in '' events dump summary other 'events one two' 'summary one two' 'summary --header one' 'dump one two' 'dump --order' 'dump --order size one' 'events --order time one' 'dump --header one' '--all' 'dump --all one' fold flame 'fold --merge' 'fold one two' 'flame --folded one two' 'flame --merge one'; do
+for words in '' events dump summary other 'events one two' 'summary one two' 'summary --header one' 'dump one two' 'dump --order' 'dump --order size one' 'events --order time one' 'dump --header one' '--all' 'dump --all one' fold flame 'fold --merge' script 'script one two' 'script --all one' 'fold one two' 'flame --folded one two' 'flame --merge one'; do
     # shellcheck disable=SC2086  # these are several words
     check 2 /dev/null $words
 done
-for words in --help 'events --help' 'dump --help' 'summary --help' 'fold --help' 'flame --help'; do
+for words in --help 'events --help' 'dump --help' 'summary --help' 'script --help' 'fold --help' 'flame --help'; do
     # shellcheck disable=SC2086
     "${program[@]}" $words >"$work/found.out" 2>"$work/found.err" && [ -s "$work/found.out" ] && ! [ -s "$work/found.err" ] || {
         failed=$((failed + 1))

@@ -70,6 +70,10 @@ awk -f "$here/count-samples.awk" events.time > events.samples
 fold() {
     perf script --ns -F comm,pid,tid,time,period,event,ip,dso -i "$1.data" | awk -v files="$2" -f "$here/fold.awk" | LC_ALL=C sort
 }
+for name in events pipe group; do
+    perf script --ns -F comm,pid,tid,time,period,event,ip,dso -i $name.data > $name.script
+done
+perf script --ns -F comm,pid,tid,cpu,time,period,event,ip,dso -i machine.data > machine.script
 fold events '' > events.folded
 fold machine 1 > machine.files
 fold group 1 > group.files

@@ -31,6 +31,7 @@ RETURNS = {
     "perf_stacks": "the names of their frames",
     "perf_folded": "folded stacks as text",
     "perf_fold": "the folded stacks of a file",
+    "perf_script": "the text of samples",
     "perf_lines": "the text of a run",
     "perf_reports": "lines of tasks and samples, counts",
     "perf_data_text": "the text of a perf.data file",
@@ -45,7 +46,7 @@ FACES = ("perf_event_data", "perf_event_c", "perf_file", "perf_history", "perf_f
 OTHERS = {
     "Examples and measurements": ["perf_uses", "perf_bench", "perf_file_bench"],
     "Tests": ["perf_program_tests", "perf_unit_tests", "perf_file_tests", "perf_history_tests", "perf_flame_tests",
-              "perf_walk_tests", "perf_out_of_memory", "perf_replay"],
+              "perf_walk_tests", "perf_script_tests", "perf_out_of_memory", "perf_replay"],
     "Tests without a parser": ["perf_buffer_tests", "perf_value_tests"],
     "What tests share": ["perf_test_inputs", "perf_test_helpers"],
 }

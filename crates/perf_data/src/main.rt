@@ -5,10 +5,14 @@
 //! frame in the order of the file, with `--order time` by time: what the line of `perfrec` has, and
 //! after its number the offset of the frame in the file and its event. `perf_data summary FILE` prints
 //! what is counted: a line of all frames, one for each event, and one for each type of record, after lines
-//! of what perf states about the machine and the command. `perf_data fold --merge FILE ..`
-//! adds up folded stacks, and `perf_data flame --folded FILE` draws a flame graph of them, with
-//! `--inverted` from the innermost frames on. A FILE of `-` is standard
-//! input. The whole file is read into memory, and all of its text is made before any is written; of a
+//! of what perf states about the machine and the command. `perf_data script FILE` prints the samples by
+//! time, as `perf script` does.
+//!
+//! `perf_data fold FILE` prints the stacks of samples, and how many there are of each, and
+//! `perf_data flame FILE` draws a flame graph of them, with `--inverted` from the innermost frames on.
+//! `fold --merge FILE ..` adds up such lines, and `flame --folded FILE` draws them.
+//!
+//! A FILE of `-` is standard input. The whole file is read into memory, and all of its text is made before any is written; of a
 //! large file a line on standard error says so, if that is a terminal.
 //!
 //! The exit status is 0 if every frame and feature could be read, 1 if one was refused, 2 if the file is none of
@@ -22,6 +26,7 @@ use clap::{Arg, ArgAction, ArgMatches, Command};
 use perf_data_text::run::{Show, run, status_after};
 use perf_file::OpenError;
 use perf_lines::outcome::Outcome;
+use perf_script::write_script;
 use std::alloc::{AllocError, Global};
 use std::io::{IsTerminal, Read};
 use std::process::ExitCode;
@@ -87,8 +92,16 @@ fn program<'a>(alloc: Global) -> Result<Command<'a>, AllocError> {
         .subcommand(events)?
         .subcommand(dump)?
         .subcommand(summary)?
+        .subcommand(script_words(alloc)?)?
         .subcommand(folding::fold_words(alloc)?)?
         .subcommand(folding::flame_words(alloc)?)
+}
+
+// The words of `script`.
+fn script_words<'a>(alloc: Global) -> Result<Command<'a>, AllocError> {
+    Command::new(alloc, "script")
+        .about("Prints the samples by time, as `perf script` does")
+        .arg(file_word(alloc))
 }
 
 // The word for the file.
@@ -141,6 +154,8 @@ fn show_file(rt: &HostRuntime, command: &str, words: &ArgMatches<'_>) -> io::Res
     let mut output = rt.stdout();
     let ended = if command == "summary" {
         perf_summary::run::run(rt.alloc(), &bytes, &mut output)
+    } else if command == "script" {
+        write_script(rt.alloc(), &bytes, &mut output)
     } else {
         run(rt.alloc(), &bytes, &mut output, shown(command, words))
     };

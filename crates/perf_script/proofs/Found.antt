@@ -1,0 +1,138 @@
+-- The text of the sample that was found in a frame.
+use Rattle.std.proofs.Common.{◌≡◌, ℕ, suc, ◌+◌, ◌<◌, Bool, true, false, List, [], ◌∷◌, ◌++◌, map, length, drop, get_or, drop-cons, refl, sym, ◌∙◌, ap, subst, append_assoc, arith}
+use Rattle.std.specs.Prelude.{Option, Some, None, option_map}
+use Rattle.perf_base.specs.Dynamic.{order_of}
+use Rattle.perf_base.specs.Header.{header_of}
+use Rattle.perf_file.specs.IdTables.{event_of}
+use Rattle.perf_file.specs.Opened.{File, table_of}
+use Rattle.perf_file.specs.declared.ids.IdOfEvent.{IdOfEvent}
+use Rattle.perf_flat.specs.Flat.{IsFlat}
+use Rattle.perf_flat.specs.Samples.{sample_present}
+use Rattle.perf_flat.specs.declared.frame.FlatFrame.{FlatFrame}
+use Rattle.perf_history.specs.declared.changes.Change.{Change}
+use Rattle.perf_sample_types.specs.Sample.{SampleValue}
+use Rattle.perf_walk.specs.Calls.{calls_of}
+use Rattle.perf_walk.specs.Moments.{Moment}
+use Rattle.perf_walk.specs.Plain.{plain}
+use Rattle.perf_walk.specs.Samples.{sample_view}
+use Rattle.perf_walk.specs.declared.calls.Call.{Call}
+use Rattle.perf_walk.specs.declared.sampling.Sample.{Sample}
+use Rattle.perf_words.specs.Bits.{has_bit}
+use Rattle.perf_script.specs.Counters.{readings_of, counters_text, counter_text, moved_text}
+use Rattle.perf_script.specs.Ids.{finds}
+use Rattle.perf_script.specs.Labels.{EventLabel, label_view}
+use Rattle.perf_script.specs.Moved.{moved}
+use Rattle.perf_script.specs.SampleText.{Shown}
+use Rattle.perf_script.specs.ScriptText.{is_guest, has_counters, shown_text, plain_text, read_by, read_at, text_at, sample_at, shown_at}
+use Rattle.perf_script.specs.UnderWay.{AreEvents, HasParts, shown_by}
+use Rattle.perf_script.specs.declared.readings.Reading.{Reading}
+use Rattle.perf_script.specs.declared.script.Events.{Events}
+use Rattle.perf_script.specs.declared.script.State.{State}
+use Rattle.perf_script.proofs.Fields.{fields_of}
+use Rattle.perf_script.proofs.PlainText.{shown_same}
+
+-- ---- lists
+
+pub drop_next : {X : Type 0} (xs : List X) (i : ℕ) (d : X) → i < length xs → drop i xs ≡ get_or xs i d ∷ drop (i + 1) xs
+drop_next xs i d lt = let next : suc i ≡ i + 1 = omega arith in drop-cons xs i d lt ∙ ap (λ n. get_or xs i d ∷ drop n xs) next
+
+-- ---- one counter after another
+
+-- the text of a counter, by what was found
+pub counter_same : (f : File) (all : List EventLabel) (events : Events) (changes : List Change) (s : Shown) (now : List Reading) (r : Reading) (far : ℕ) → AreEvents f all events → far ≡ moved now r
+    → moved_text (map label_view events.labels.items) changes s (finds events.ids r.id) far ≡ counter_text all (table_of f.events) changes s now r
+counter_same f all events changes s now r far h is =
+    ap (λ ls. moved_text ls changes s (finds events.ids r.id) far) h.labels
+    ∙ ap (λ e. moved_text all changes s e far) (h.ids r.id)
+    ∙ ap (moved_text all changes s (event_of (table_of f.events) r.id)) is
+
+pub counters_more : (labels : List EventLabel) (ids : List IdOfEvent) (changes : List Change) (s : Shown) (now left rest : List Reading) (r : Reading) (text grown whole : List ℕ) → left ≡ r ∷ rest
+    → text ++ counters_text labels ids changes s now left ≡ whole → grown ≡ text ++ counter_text labels ids changes s now r
+    → grown ++ counters_text labels ids changes s (r ∷ now) rest ≡ whole
+counters_more labels ids changes s now left rest r text grown whole is all more =
+    let after : List ℕ = counters_text labels ids changes s (r ∷ now) rest in
+    ap (λ t. t ++ after) more ∙ append_assoc text (counter_text labels ids changes s now r) after
+    ∙ ap (λ rs. text ++ counters_text labels ids changes s now rs) (sym is) ∙ all
+
+-- ---- a sample or none
+
+none_of : (misc : ℕ) (o : Option SampleValue) → None ≡ option_map (sample_view misc) o → o ≡ None
+none_of misc (Some s) e = absurd (cc)
+none_of misc None e = refl
+
+pub some_of : (misc : ℕ) (o : Option SampleValue) (x : Sample) → Some x ≡ option_map (sample_view misc) o → (s : SampleValue) × (o ≡ Some s) × (x ≡ sample_view misc s)
+some_of misc (Some s) x e = (s, refl, cc)
+some_of misc None x e = absurd (cc)
+
+abbrev text_if_some : File → List EventLabel → (older : List Reading) → Moment → Option SampleValue → List ℕ
+text_if_some f labels older m o = elim o [
+  | Some s ↦ shown_text labels (table_of f.events) older (readings_of m.config.read_format s) m.event m.known (shown_at f m s)
+  | None ↦ []
+]
+
+abbrev read_if_some : File → (older : List Reading) → Moment → Option SampleValue → List Reading
+read_if_some f older m o = elim o [ Some s ↦ read_by older (readings_of m.config.read_format s) (shown_at f m s) | None ↦ older ]
+
+pub none_read : (f : File) (older : List Reading) (m : Moment) (misc : ℕ) → None ≡ option_map (sample_view misc) (sample_at f m) → read_at f older m ≡ older
+none_read f older m misc e = ap (read_if_some f older m) (none_of misc (sample_at f m) e)
+
+pub none_text : (f : File) (labels : List EventLabel) (older : List Reading) (m : Moment) (misc : ℕ) → None ≡ option_map (sample_view misc) (sample_at f m) → text_at f labels older m ≡ []
+none_text f labels older m misc e = ap (text_if_some f labels older m) (none_of misc (sample_at f m) e)
+
+-- ---- the readings count only if there are counters
+
+read_parts : (older first second : List Reading) (s : Shown) → (has_bit s.fields 4 ≡ true → first ≡ second) → read_by older first s ≡ read_by older second s
+read_parts older first second s same = go (has_bit s.fields 4) refl where
+  go : (b : Bool) → has_bit s.fields 4 ≡ b → read_by older first s ≡ read_by older second s
+  go true holds = ap (λ rs. read_by older rs s) (same holds)
+  go false fails = rw fails refl
+
+text_parts : (labels : List EventLabel) (ids : List IdOfEvent) (older first second : List Reading) (event : ℕ) (known : List Change) (s : Shown) → (has_bit s.fields 4 ≡ true → first ≡ second)
+    → shown_text labels ids older first event known s ≡ shown_text labels ids older second event known s
+text_parts labels ids older first second event known s same = go (has_bit s.fields 4) refl where
+  go : (b : Bool) → has_bit s.fields 4 ≡ b → shown_text labels ids older first event known s ≡ shown_text labels ids older second event known s
+  go true holds = ap (λ rs. shown_text labels ids older rs event known s) (same holds)
+  go false fails = rw fails refl
+
+-- ---- what is shown
+
+abbrev shown_with : (fields : ℕ) → (guest : Bool) → Sample → List Call → Shown
+shown_with fields guest sample calls = record { fields = fields; guest = guest; sample = sample; calls = calls }
+
+-- what was found of a sample in a frame
+pub record IsFound (f : File) (m : Moment) (flat : FlatFrame) (state : State) (x : Sample) : Type 0 where
+  pub sample : SampleValue
+  pub states : IsFlat m.config (order_of f.order) m.frame flat
+  pub is : sample_at f m ≡ Some sample
+  pub view : x ≡ sample_view flat.misc sample
+  pub parts : HasParts m.config.read_format sample flat.present state
+
+shown_is : (f : File) (m : Moment) (flat : FlatFrame) (state : State) (x : Sample) → (h : IsFound f m flat state x) → shown_by state flat.present (is_guest flat.misc) x ≡ shown_at f m h.sample
+shown_is f m flat state x h =
+    let misc : flat.misc ≡ (header_of (order_of f.order) m.frame).misc = h.states.header.misc in
+    ap (λ n. shown_with n (is_guest flat.misc) x state.calls.items) (fields_of m.config (order_of f.order) m.frame h.sample flat h.states h.is)
+    ∙ ap (λ y. shown_with (sample_present m.config) (is_guest flat.misc) y state.calls.items) h.view
+    ∙ ap (λ n. shown_with (sample_present m.config) (is_guest n) (sample_view n h.sample) state.calls.items) misc
+    ∙ ap (λ cs. shown_with (sample_present m.config) (is_guest (header_of (order_of f.order) m.frame).misc) (sample_view (header_of (order_of f.order) m.frame).misc h.sample) cs) h.parts.calls
+
+pub found_read : (f : File) (older : List Reading) (m : Moment) (flat : FlatFrame) (state : State) (x : Sample) → IsFound f m flat state x
+    → read_by older state.readings.items (shown_by state flat.present (is_guest flat.misc) x) ≡ read_at f older m
+found_read f older m flat state x h =
+    let shown : Shown = shown_by state flat.present (is_guest flat.misc) x in
+    read_parts older state.readings.items (readings_of m.config.read_format h.sample) shown h.parts.readings
+    ∙ ap (read_by older (readings_of m.config.read_format h.sample)) (shown_is f m flat state x h)
+    ∙ ap (read_if_some f older m) (sym h.is)
+
+pub found_text : (f : File) (labels : List EventLabel) (older : List Reading) (m : Moment) (flat : FlatFrame) (state : State) (x : Sample) (event : ℕ) (changes : List Change) → IsFound f m flat state x
+    → event ≡ m.event → map plain changes ≡ m.known
+    → shown_text labels (table_of f.events) older state.readings.items event changes (shown_by state flat.present (is_guest flat.misc) x) ≡ text_at f labels older m
+found_text f labels older m flat state x event changes h at known =
+    let ids : List IdOfEvent = table_of f.events in
+    let shown : Shown = shown_by state flat.present (is_guest flat.misc) x in
+    let readings : List Reading = readings_of m.config.read_format h.sample in
+    text_parts labels ids older state.readings.items readings event changes shown h.parts.readings
+    ∙ ap (shown_text labels ids older readings event changes) (shown_is f m flat state x h)
+    ∙ sym (shown_same labels ids older readings event changes (shown_at f m h.sample))
+    ∙ ap (λ cs. shown_text labels ids older readings event cs (shown_at f m h.sample)) known
+    ∙ ap (λ n. shown_text labels ids older readings n m.known (shown_at f m h.sample)) at
+    ∙ ap (text_if_some f labels older m) (sym h.is)

@@ -1,0 +1,9 @@
+pub mod PlainText
+pub mod Fields
+pub mod Naming
+pub mod InTurn
+pub mod IdTables
+pub mod Groups
+pub mod Found
+pub mod Ways
+pub mod Blocks

@@ -1,0 +1,129 @@
+-- Texts do not depend on where byte strings are.
+use Rattle.std.proofs.Common.{◌≡◌, ℕ, List, [], ◌∷◌, ◌++◌, ◌==◌, not, map, refl, sym, ◌∙◌, ap, codes, if◌then◌else◌}
+use Rattle.std.specs.Prelude.{Option, Some, None, option_map}
+use Rattle.perf_file.specs.declared.ids.IdOfEvent.{IdOfEvent}
+use Rattle.perf_file.specs.IdTables.{event_of}
+use Rattle.perf_history.specs.Histories.{name_of, place_of}
+use Rattle.perf_history.specs.declared.changes.Change.{Change}
+use Rattle.perf_history.specs.declared.changes.Mode.{Mode}
+use Rattle.perf_history.specs.declared.changes.Mode.TheVariants.{Kernel, User, Other}
+use Rattle.perf_history.specs.declared.names.Name.{Name}
+use Rattle.perf_history.specs.declared.names.Name.TheVariants.{Given, Number, Swapper}
+use Rattle.perf_history.specs.declared.places.File.{File}
+use Rattle.perf_history.specs.declared.places.File.TheVariants.{Named, PerfMap, Symbol}
+use Rattle.perf_history.specs.declared.places.Place.{Place}
+use Rattle.perf_walk.specs.Plain.{plain, plain_name, plain_file, plain_place}
+use Rattle.perf_walk.specs.declared.calls.Call.{Call}
+use Rattle.perf_walk.proofs.PlainNames.{name_plain, place_plain}
+use Rattle.perf_words.specs.Bits.{has_bit}
+use Rattle.perf_script.specs.Columns.{right, task_column, period_column, address_column}
+use Rattle.perf_script.specs.Threads.{thread_name, name_width}
+use Rattle.perf_script.specs.Files.{file_name, place_name, shown_address}
+use Rattle.perf_script.specs.Chains.{placed_line, call_line, call_lines}
+use Rattle.perf_script.specs.Counters.{counters_text, counter_text, moved_text}
+use Rattle.perf_script.specs.Labels.{EventLabel, label_at}
+use Rattle.perf_script.specs.Moved.{moved}
+use Rattle.perf_script.specs.SampleText.{Shown, text_if, is_chained, head_columns, cpu_column_if, time_column_if, code_columns_if, address_columns, chain_lines, event_columns, own_text, sample_text}
+use Rattle.perf_script.specs.ScriptText.{plain_text, shown_text, period_of, has_counters}
+use Rattle.perf_script.specs.declared.readings.Reading.{Reading}
+
+-- ---- names
+
+named : (n : Name) → thread_name (plain_name n) ≡ thread_name n
+named (Given name) = refl
+named (Number tid) = refl
+named Swapper = refl
+
+thread_same : (changes : List Change) (tid : ℕ) → thread_name (name_of (map plain changes) tid) ≡ thread_name (name_of changes tid)
+thread_same changes tid = ap thread_name (sym (name_plain changes tid)) ∙ named (name_of changes tid)
+
+-- ---- places
+
+filed : (mode : Mode) (f : File) → file_name mode (plain_file f) ≡ file_name mode f
+filed mode (Named path) = refl
+filed mode (PerfMap pid) = refl
+filed mode (Symbol name) = refl
+
+placed : (mode : Mode) (p : Option Place) → place_name mode (option_map plain_place p) ≡ place_name mode p
+placed mode (Some p) = filed mode p.file
+placed mode None = refl
+
+addressed : (mode : Mode) (address : ℕ) (p : Option Place) → shown_address mode address (option_map plain_place p) ≡ shown_address mode address p
+addressed Kernel address p = refl
+addressed User address (Some p) = refl
+addressed User address None = refl
+addressed Other address (Some p) = refl
+addressed Other address None = refl
+
+place_same : (changes : List Change) (pid : ℕ) (mode : Mode) (address : ℕ) → place_name mode (place_of (map plain changes) pid mode address) ≡ place_name mode (place_of changes pid mode address)
+place_same changes pid mode address = ap (place_name mode) (sym (place_plain changes pid mode address)) ∙ placed mode (place_of changes pid mode address)
+
+address_same : (changes : List Change) (pid : ℕ) (mode : Mode) (address : ℕ) → shown_address mode address (place_of (map plain changes) pid mode address) ≡ shown_address mode address (place_of changes pid mode address)
+address_same changes pid mode address = ap (shown_address mode address) (sym (place_plain changes pid mode address)) ∙ addressed mode address (place_of changes pid mode address)
+
+-- ---- chains
+
+-- a line by what it shows
+abbrev line_with : (address : ℕ) (name : List ℕ) → List ℕ
+line_with address name = codes "\t" ++ (address_column address ++ ((codes " (" ++ (name ++ codes ")")) ++ codes "\n"))
+
+call_same : (changes : List Change) (pid : ℕ) (call : Call) → call_line (map plain changes) pid call ≡ call_line changes pid call
+call_same changes pid call =
+    ap (λ a. line_with a (place_name call.mode (place_of (map plain changes) pid call.mode call.address))) (address_same changes pid call.mode call.address)
+    ∙ ap (line_with (shown_address call.mode call.address (place_of changes pid call.mode call.address))) (place_same changes pid call.mode call.address)
+
+calls_same : (changes : List Change) (pid : ℕ) (calls : List Call) → call_lines (map plain changes) pid calls ≡ call_lines changes pid calls
+calls_same changes pid [] = refl
+calls_same changes pid (call ∷ calls) =
+    ap (λ line. line ++ call_lines (map plain changes) pid calls) (call_same changes pid call)
+    ∙ ap (λ rest. call_line changes pid call ++ rest) (calls_same changes pid calls)
+
+-- ---- samples
+
+-- the columns before the period by the name of the thread
+abbrev head_with : Shown → (name : List ℕ) → List ℕ
+head_with s name =
+    text_if (has_bit s.fields 1) ((right (name_width (is_chained s.fields)) name ++ codes " ") ++ task_column s.sample.pid s.sample.tid)
+    ++ (cpu_column_if s ++ time_column_if s)
+
+head_same : (changes : List Change) (s : Shown) → head_columns (map plain changes) s ≡ head_columns changes s
+head_same changes s = ap (head_with s) (thread_same changes s.sample.tid)
+
+ip_same : (changes : List Change) (s : Shown) → address_columns (map plain changes) s ≡ address_columns changes s
+ip_same changes s =
+    ap (λ name. codes " " ++ (address_column s.sample.ip ++ (codes " (" ++ (name ++ codes ")")))) (place_same changes s.sample.pid s.sample.mode s.sample.ip)
+
+chain_same : (changes : List Change) (s : Shown) → chain_lines (map plain changes) s ≡ chain_lines changes s
+chain_same changes s = ap (λ lines. codes "\n" ++ lines) (calls_same changes s.sample.pid s.calls)
+
+code_same : (changes : List Change) (s : Shown) → code_columns_if (map plain changes) s ≡ code_columns_if changes s
+code_same changes s =
+    ap (λ lines. text_if (has_bit s.fields 0) (if has_bit s.fields 5 then lines else address_columns (map plain changes) s)) (chain_same changes s)
+    ∙ ap (λ columns. text_if (has_bit s.fields 0) (if has_bit s.fields 5 then chain_lines changes s else columns)) (ip_same changes s)
+
+own_same : (label : List ℕ) (period : ℕ) (changes : List Change) (s : Shown) → own_text label period (map plain changes) s ≡ own_text label period changes s
+own_same label period changes s =
+    ap (λ head. head ++ (event_columns label period ++ (code_columns_if (map plain changes) s ++ codes "\n"))) (head_same changes s)
+    ∙ ap (λ code. head_columns changes s ++ (event_columns label period ++ (code ++ codes "\n"))) (code_same changes s)
+
+sample_same : (label : List ℕ) (period : ℕ) (changes : List Change) (s : Shown) → sample_text label period (map plain changes) s ≡ sample_text label period changes s
+sample_same label period changes s = ap (λ t. if s.guest then [] else t) (own_same label period changes s)
+
+-- ---- counters
+
+moved_same : (labels : List EventLabel) (changes : List Change) (s : Shown) (event : Option ℕ) (far : ℕ) → moved_text labels (map plain changes) s event far ≡ moved_text labels changes s event far
+moved_same labels changes s (Some n) far = ap (text_if (not (far == 0))) (sample_same (label_at labels n).text far changes s)
+moved_same labels changes s None far = refl
+
+counters_same : (labels : List EventLabel) (ids : List IdOfEvent) (changes : List Change) (s : Shown) (older readings : List Reading)
+    → counters_text labels ids (map plain changes) s older readings ≡ counters_text labels ids changes s older readings
+counters_same labels ids changes s older [] = refl
+counters_same labels ids changes s older (r ∷ rs) =
+    ap (λ t. t ++ counters_text labels ids (map plain changes) s (r ∷ older) rs) (moved_same labels changes s (event_of ids r.id) (moved older r))
+    ∙ ap (λ rest. counter_text labels ids changes s older r ++ rest) (counters_same labels ids changes s (r ∷ older) rs)
+
+pub shown_same : (labels : List EventLabel) (ids : List IdOfEvent) (older readings : List Reading) (event : ℕ) (changes : List Change) (s : Shown)
+    → shown_text labels ids older readings event (map plain changes) s ≡ shown_text labels ids older readings event changes s
+shown_same labels ids older readings event changes s =
+    ap (λ t. if has_counters s then t else plain_text labels event (map plain changes) s) (counters_same labels ids changes s older readings)
+    ∙ ap (λ t. if has_counters s then counters_text labels ids changes s older readings else t) (sample_same (label_at labels event).text (period_of (label_at labels event) s) changes s)

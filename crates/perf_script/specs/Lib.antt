@@ -1,0 +1,16 @@
+pub mod Columns
+pub mod Threads
+pub mod Files
+pub mod Chains
+pub mod SampleText
+pub mod Seen
+pub mod Headings
+pub mod Labels
+pub mod Ids
+pub mod Blocks
+pub mod Moved
+pub mod Counters
+pub mod Counted
+pub mod ScriptText
+pub mod UnderWay
+pub mod Written

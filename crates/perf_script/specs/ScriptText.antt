@@ -1,0 +1,98 @@
+-- The text of a recording.
+use Rattle.std.specs.Prelude.{◌≡◌, ℕ, ◌%◌, ◌==◌, ◌||◌, Bool, List, [], ◌∷◌, ◌++◌, is_err, Option, Some, None, if◌then◌else◌}
+use Rattle.std.specs.List.{list_any}
+use Rattle.perf_base.specs.Configuration.{Configuration}
+use Rattle.perf_base.specs.Dynamic.{order_of}
+use Rattle.perf_base.specs.Header.{header_of}
+use Rattle.perf_file.specs.Entries.{entries_of, IsInOrder}
+use Rattle.perf_file.specs.IdTables.{event_of}
+use Rattle.perf_file.specs.Names.{Name}
+use Rattle.perf_file.specs.Opened.{File, FileEvent, table_of}
+use Rattle.perf_file.specs.declared.entries.Entry.{Entry}
+use Rattle.perf_file.specs.declared.ids.IdOfEvent.{IdOfEvent}
+use Rattle.perf_flat.specs.Samples.{sample_present}
+use Rattle.perf_history.specs.declared.changes.Change.{Change}
+use Rattle.perf_records.specs.Answers.{answer_of_frame}
+use Rattle.perf_sample_types.specs.Sample.{SampleValue}
+use Rattle.perf_walk.specs.Calls.{calls_of}
+use Rattle.perf_walk.specs.Moments.{Moment, moments}
+use Rattle.perf_walk.specs.Samples.{sample_of, sample_view}
+use Rattle.perf_words.specs.Bits.{has_bit}
+use Rattle.perf_script.specs.Counters.{readings_of, counters_text, read_after}
+use Rattle.perf_script.specs.Labels.{EventLabel, label_at, labels_by}
+use Rattle.perf_script.specs.SampleText.{Shown, sample_text}
+use Rattle.perf_script.specs.declared.readings.Reading.{Reading}
+
+-- whether a sample was taken in a guest, in its kernel or in a process: modes 4 and 5
+abbrev pub is_guest : (misc : ℕ) → Bool
+is_guest misc = misc % 8 == 4 || misc % 8 == 5
+
+-- what is shown of a sample whose frame has this misc
+abbrev pub shown_of : Configuration → (misc : ℕ) → SampleValue → Shown
+shown_of c misc s = record { fields = sample_present c; guest = is_guest misc; sample = sample_view misc s; calls = calls_of s }
+
+-- the period of a sample: its own, or that of its event
+abbrev pub period_of : EventLabel → Shown → ℕ
+period_of label s = if has_bit s.fields 8 then s.sample.period else label.period
+
+-- the text of a sample by itself
+abbrev pub plain_text : List EventLabel → (event : ℕ) → List Change → Shown → List ℕ
+plain_text labels event known s =
+    sample_text (label_at labels event).text (period_of (label_at labels event) s) known s
+
+-- whether a sample reads counters
+abbrev pub has_counters : Shown → Bool
+has_counters s = has_bit s.fields 4
+
+-- the text of a sample: if it reads counters, one for each that moved
+abbrev pub shown_text : List EventLabel → List IdOfEvent → (older readings : List Reading) → (event : ℕ) → List Change → Shown → List ℕ
+shown_text labels ids older readings event known s =
+    if has_counters s then counters_text labels ids known s older readings else plain_text labels event known s
+
+-- the counters that were read by the end of it, the newest first
+abbrev pub read_by : (older readings : List Reading) → Shown → List Reading
+read_by older readings s = if has_counters s then read_after older readings else older
+
+-- ---- of frames
+
+-- the sample in a frame
+abbrev pub sample_at : File → Moment → Option SampleValue
+sample_at f m = sample_of m.config (order_of f.order) m.frame
+
+-- what is shown of it
+abbrev pub shown_at : File → Moment → SampleValue → Shown
+shown_at f m s = shown_of m.config (header_of (order_of f.order) m.frame).misc s
+
+-- the text of the sample in a frame, if there is one
+abbrev pub text_at : File → List EventLabel → (older : List Reading) → Moment → List ℕ
+text_at f labels older m = elim (sample_at f m) [
+  | Some s ↦ shown_text labels (table_of f.events) older (readings_of m.config.read_format s) m.event m.known (shown_at f m s)
+  | None ↦ []
+]
+
+-- the counters that were read by the end of a frame
+abbrev pub read_at : File → (older : List Reading) → Moment → List Reading
+read_at f older m = elim (sample_at f m) [ Some s ↦ read_by older (readings_of m.config.read_format s) (shown_at f m s) | None ↦ older ]
+
+-- the text of frames, before which these counters were read
+abbrev pub text_from : File → List EventLabel → (older : List Reading) → List Moment → List ℕ
+text_from f labels older [] = []
+text_from f labels older (m ∷ ms) = text_at f labels older m ++ text_from f labels (read_at f older m) ms
+
+-- whether a frame is refused
+abbrev pub is_refused : File → Moment → Bool
+is_refused f m = is_err (answer_of_frame m.config (order_of f.order) m.frame)
+
+-- whether one of some frames is
+abbrev pub any_refused : File → List Moment → Bool
+any_refused f ms = list_any (is_refused f) ms
+
+-- the text of the frames of these entries, of which some are refused or none
+abbrev pub IsTextOf : File → List EventLabel → List Entry → (refused : Bool) → List ℕ → Type 0
+IsTextOf f labels entries refused text =
+    (refused ≡ any_refused f (moments f entries [])) × (text ≡ text_from f labels [] (moments f entries []))
+
+-- the text of a file: that of its frames by time, and at equal times by place
+abbrev pub IsText : File → (naming : ℕ → FileEvent → Name) → (refused : Bool) → List ℕ → Type 0
+IsText f naming refused text =
+    (entries : List Entry) × IsInOrder (entries_of f) entries × IsTextOf f (labels_by naming f.events) entries refused text

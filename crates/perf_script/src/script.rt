@@ -1,0 +1,400 @@
+//! The text of a recording.
+
+ghost use Rattle.std.specs.Prelude.{◌≡◌, ◌<◌, ◌≤◌, ◌++◌, ◌∷◌, ℕ, Bool, [], Some, IfOk, OnOk, List, MatchOption, length, map, slice_index_or};
+ghost use Rattle.perf_base.specs.Configuration.{Configuration};
+ghost use Rattle.perf_base.specs.Dynamic.{order_of};
+ghost use Rattle.perf_file.specs.Names.{Name};
+ghost use Rattle.perf_file.specs.Opened.{File, FileEvent, table_of};
+ghost use Rattle.perf_file.specs.Views.{view};
+ghost use Rattle.perf_history.specs.Recorded.{IsHistory};
+ghost use Rattle.perf_history.specs.declared.changes.Change.{Change};
+ghost use Rattle.perf_flat.specs.Flat.{IsFlat};
+ghost use Rattle.perf_sample_types.specs.Sample.{SampleValue};
+ghost use Rattle.perf_walk.specs.Moments.{Moment};
+ghost use Rattle.perf_walk.specs.Plain.{IsPast};
+ghost use Rattle.perf_walk.specs.Samples.{sample_of};
+ghost use Rattle.perf_walk.specs.Steps.{IsFrameOf};
+ghost use Rattle.perf_script.specs.Counted.{IsCounted};
+ghost use Rattle.perf_script.specs.Counters as counters;
+ghost use Rattle.perf_script.specs.Headings.{heading_view};
+ghost use Rattle.perf_script.specs.Ids.{finds};
+ghost use Rattle.perf_script.specs.Labels as labels;
+ghost use Rattle.perf_script.specs.ScriptText as script;
+ghost use Rattle.perf_script.specs.Seen.{shown_in};
+ghost use Rattle.perf_script.specs.UnderWay.{AreEvents, IsUnderWay, IsBegun, HasParts, Pushes, shown_by};
+
+use crate::ids::Ids;
+use crate::labels::{Label, labels_of};
+use crate::readings::{Counters, Reading, push_readings};
+use crate::samples::{Heading, Sampled, has_field, push_sample};
+use perf_base::endian::Dynamic;
+use perf_file::{Entry, Recording};
+use perf_flat::frame::FlatFrame;
+use perf_history::History;
+use perf_walk::{Call, Found, Sample, Walk, push_calls, sample_in};
+use std::alloc::{AllocError, Global};
+
+// The flags of fields.
+const READ: u32 = 4;
+
+const PERIOD: u32 = 8;
+
+// The events of a recording.
+#[derive(Drop)]
+pub struct Events {
+    labels: Vec<Label>,
+    ids: Ids,
+}
+
+impl Events {
+    // The events of a recording.
+    fn of(alloc: Global, recording: &Recording<'_>) -> Result<Events, AllocError>
+        ensures { IfOk result (AreEvents (view recording.now)
+            (labels.own_labels recording.now.events.items)) }
+    {
+        Ok(Events {
+            labels: labels_of(alloc, recording)?,
+            ids: Ids::of(alloc, recording)?,
+        })
+    }
+}
+
+// The label of an event, if there is one with that number.
+fn label_of(list: &[Label], event: usize) -> Option<&Label>
+    ensures { MatchOption result (length list.now ≤ event) (λ l. (event < length list.now)
+        × (l.now ≡ slice_index_or list.now event l.now)) }
+{
+    list.get(event)
+}
+
+// The heading of an event's samples that contain no period.
+fn heading_of(list: &[Label], event: usize) -> Heading<'_>
+    ensures { heading_view result ≡ labels.label_at (map labels.label_view list.now) event }
+{
+    match label_of(list, event) {
+        Some(label) => Heading {
+            label: &label.text,
+            period: label.period,
+        },
+        None => Heading {
+            label: &[],
+            period: 0,
+        },
+    }
+}
+
+// The period of a sample with this heading.
+fn period_of(heading: Heading<'_>, shown: &Sampled<'_>) -> u64
+    ensures { result ≡ script.period_of (heading_view heading.entry) (shown_in shown.now) }
+{
+    if has_field(shown.fields, PERIOD) {
+        shown.sample.period
+    } else {
+        heading.period
+    }
+}
+
+// Appends the text of a sample by itself.
+fn push_plain(
+    text: &mut Vec<u8>,
+    list: &[Label],
+    event: usize,
+    history: &History<'_>,
+    shown: &Sampled<'_>,
+) -> Result<(), AllocError>
+    ensures { (changes : List Change) → IsHistory history.now changes →
+        OnOk result (text.new.items ≡ text.old.items ++ script.plain_text
+        (map labels.label_view list.now) event changes (shown_in shown.now)) }
+{
+    let heading = heading_of(list, event);
+    let period = period_of(heading, shown);
+    let label = heading.label;
+    push_sample(text, Heading { label, period }, history, shown)
+}
+
+// Appends the text of a counter of an event that moved so far, if it moved.
+fn push_moved(
+    text: &mut Vec<u8>,
+    list: &[Label],
+    event: usize,
+    far: u64,
+    history: &History<'_>,
+    shown: &Sampled<'_>,
+) -> Result<(), AllocError>
+    ensures { (changes : List Change) → IsHistory history.now changes →
+        OnOk result (text.new.items ≡ text.old.items ++ counters.moved_text
+        (map labels.label_view list.now) changes (shown_in shown.now) (Some event) far) }
+{
+    if far == 0 {
+        return Ok(());
+    }
+    let label = heading_of(list, event).label;
+    push_sample(text, Heading { label, period: far }, history, shown)
+}
+
+// Appends the text of a counter with an id that moved so far.
+fn push_counter(
+    text: &mut Vec<u8>,
+    events: &Events,
+    id: u64,
+    far: u64,
+    history: &History<'_>,
+    shown: &Sampled<'_>,
+) -> Result<(), AllocError>
+    ensures { (changes : List Change) → IsHistory history.now changes →
+        OnOk result (text.new.items ≡ text.old.items ++ counters.moved_text
+        (map labels.label_view events.now.labels.items) changes (shown_in shown.now)
+        (finds events.now.ids id) far) }
+{
+    match events.ids.event(id) {
+        Some(event) => push_moved(text, &events.labels, event, far, history, shown),
+        None => Ok(()),
+    }
+}
+
+// Appends the texts of the counters that a sample has read.
+fn push_counters(
+    text: &mut Vec<u8>,
+    events: &Events,
+    known: &mut Counters,
+    readings: &[Reading],
+    history: &History<'_>,
+    shown: &Sampled<'_>,
+) -> Result<(), AllocError>
+    ensures { (f : File) (all : List labels.EventLabel) (changes : List Change)
+        (older : List Reading) → AreEvents f all events.now → IsHistory history.now changes →
+        IsCounted known.old older → OnOk result (IsCounted known.new
+        (counters.read_after older readings.now) × (text.new.items ≡ text.old.items
+        ++ counters.counters_text all (table_of f.events) changes (shown_in shown.now) older readings.now)) }
+{
+    for reading in readings {
+        let far = known.read(*reading)?;
+        push_counter(text, events, reading.id, far, history, shown)?;
+    }
+    Ok(())
+}
+
+// What is known by the samples so far, and memory for the parts of one.
+#[derive(Drop)]
+pub struct State {
+    known: Counters,
+    readings: Vec<Reading>,
+    calls: Vec<Call>,
+}
+
+// Appends the text of a sample whose calls and readings are found.
+fn push_shown(
+    text: &mut Vec<u8>,
+    events: &Events,
+    known: &mut Counters,
+    event: usize,
+    readings: &[Reading],
+    history: &History<'_>,
+    shown: &Sampled<'_>,
+) -> Result<(), AllocError>
+    ensures { (f : File) (all : List labels.EventLabel) (changes : List Change)
+        (older : List Reading) → AreEvents f all events.now → IsHistory history.now changes →
+        IsCounted known.old older → OnOk result (IsCounted known.new
+        (script.read_by older readings.now (shown_in shown.now)) × (text.new.items ≡ text.old.items
+        ++ script.shown_text all (table_of f.events) older readings.now event changes (shown_in shown.now))) }
+{
+    if has_field(shown.fields, READ) {
+        push_counters(text, events, known, readings, history, shown)
+    } else {
+        push_plain(text, &events.labels, event, history, shown)
+    }
+}
+
+// Finds the calls and the counters of the sample in a frame. Those of a sample without counters are of no
+// use.
+fn find_parts(
+    state: &mut State,
+    order: Dynamic,
+    bytes: &[u8],
+    frame: &FlatFrame,
+) -> Result<(), AllocError>
+    ensures parts { (c : Configuration) (s : SampleValue) →
+        IsFlat c (order_of order) bytes.now frame.now →
+        sample_of c (order_of order) bytes.now ≡ Some s → OnOk result (HasParts c.read_format s frame.now.present state.new) }
+    ensures known { state.new.known ≡ state.old.known }
+{
+    state.calls.clear();
+    push_calls(&mut state.calls, order, bytes, frame)?;
+    state.readings.clear();
+    if has_field(frame.present, READ) {
+        push_readings(&mut state.readings, order, bytes, frame)
+    } else {
+        Ok(())
+    }
+}
+
+// Appends the text of a sample in a frame.
+fn push_parts(
+    text: &mut Vec<u8>,
+    events: &Events,
+    state: &mut State,
+    event: usize,
+    history: &History<'_>,
+    fields: u64,
+    guest: bool,
+    sample: Sample,
+) -> Result<(), AllocError>
+    ensures { (f : File) (all : List labels.EventLabel) (changes : List Change)
+        (older : List Reading) → AreEvents f all events.now → IsHistory history.now changes →
+        IsCounted state.old.known older → OnOk result (IsCounted state.new.known
+        (script.read_by older state.old.readings.items (shown_by state.old fields guest sample))
+        × (text.new.items ≡ text.old.items ++ script.shown_text all (table_of f.events) older
+        state.old.readings.items event changes (shown_by state.old fields guest sample))) }
+{
+    let shown = Sampled {
+        fields,
+        guest,
+        sample,
+        calls: &state.calls,
+    };
+    push_shown(
+        text,
+        events,
+        &mut state.known,
+        event,
+        &state.readings,
+        history,
+        &shown,
+    )
+}
+
+// Whether a frame with this `misc` was written in a guest: `PERF_RECORD_MISC_GUEST_KERNEL` or
+// `PERF_RECORD_MISC_GUEST_USER`.
+fn is_guest(misc: u16) -> bool
+    ensures { result ≡ script.is_guest misc }
+{
+    misc % 8 == 4 || misc % 8 == 5
+}
+
+// Appends the text of the sample in a frame, if there is one.
+fn push_found(
+    text: &mut Vec<u8>,
+    events: &Events,
+    state: &mut State,
+    order: Dynamic,
+    found: &Found<'_>,
+    history: &History<'_>,
+    frame: &FlatFrame,
+) -> Result<(), AllocError>
+    ensures { (f : File) (all : List labels.EventLabel) (m : Moment) (older : List Reading) →
+        order ≡ f.order → AreEvents f all events.now → IsFrameOf f m found.now frame.now →
+        IsPast history.now m.known → IsCounted state.old.known older →
+        OnOk result (IsCounted state.new.known (script.read_at f older m)
+        × (text.new.items ≡ text.old.items ++ script.text_at f all older m)) }
+{
+    let Some(sample) = sample_in(frame) else {
+        return Ok(());
+    };
+    find_parts(state, order, found.bytes, frame)?;
+    push_parts(
+        text,
+        events,
+        state,
+        found.event,
+        history,
+        frame.present,
+        is_guest(frame.misc),
+        sample,
+    )
+}
+
+// A text that grows, and what is known by then.
+#[derive(Drop)]
+pub struct Script<'a, 'p> {
+    walk: Walk<'a, 'p>,
+    state: State,
+    text: Vec<u8>,
+    refused: bool,
+}
+
+// Nothing is known.
+fn no_state(alloc: Global) -> State
+    ensures { IsCounted result.known [] }
+{
+    State {
+        known: Counters::new(alloc),
+        readings: Vec::new(alloc),
+        calls: Vec::new(alloc),
+    }
+}
+
+impl<'a, 'p> Script<'a, 'p> {
+    // No text.
+    fn new(alloc: Global, recording: &'a Recording<'p>) -> Script<'a, 'p>
+        ensures { IsBegun recording.now result }
+    {
+        Script {
+            walk: Walk::new(alloc, recording),
+            state: no_state(alloc),
+            text: Vec::new(alloc),
+            refused: false,
+        }
+    }
+
+    // Appends the text of the frame that was found last.
+    fn push(&mut self, events: &Events, found: &Found<'_>) -> Result<(), AllocError>
+        ensures pushes { (f : File) (all : List labels.EventLabel) (m : Moment) (older : List Reading) →
+            view self.old.walk.recording.now ≡ f → AreEvents f all events.now →
+            IsFrameOf f m found.now self.old.walk.frame → IsPast self.old.walk.history m.known →
+            IsCounted self.old.state.known older → OnOk result (Pushes f all m older self.old self.new) }
+        ensures walk { self.new.walk ≡ self.old.walk }
+    {
+        self.refused |= self.walk.frame().refusal != 0;
+        push_found(
+            &mut self.text,
+            events,
+            &mut self.state,
+            self.walk.recording().order(),
+            found,
+            self.walk.history(),
+            self.walk.frame(),
+        )
+    }
+
+    // Goes on to the frame of an entry.
+    fn step(&mut self, events: &Events, entry: &Entry) -> Result<(), AllocError>
+        ensures { (f : File) (all : List labels.EventLabel) (left : List Entry) (any : Bool)
+            (whole : List ℕ) → AreEvents f all events.now →
+            IsUnderWay f all (entry.now ∷ left) any whole self.old →
+            OnOk result (IsUnderWay f all left any whole self.new) }
+    {
+        let next = self.walk.step(entry)?;
+        match next {
+            Some(found) => self.push(events, &found),
+            None => Ok(()),
+        }
+    }
+}
+
+// The text of the frames of entries, and whether one of them was refused.
+fn text_of_entries(
+    alloc: Global,
+    recording: &Recording<'_>,
+    events: &Events,
+    entries: &[Entry],
+) -> Result<(Vec<u8>, bool), AllocError>
+    ensures { (all : List labels.EventLabel) → AreEvents (view recording.now) all events.now →
+        IfOk result (λ made. script.IsTextOf (view recording.now) all entries.now made.1 made.0.items) }
+{
+    let mut made = Script::new(alloc, recording);
+    for entry in entries {
+        made.step(events, entry)?;
+    }
+    Ok((made.text, made.refused))
+}
+
+/// The text of the samples of a recording by time, and at equal times in the order of the file, and
+/// whether a frame was refused.
+pub fn text_of(alloc: Global, recording: &Recording<'_>) -> Result<(Vec<u8>, bool), AllocError>
+    ensures { (naming : ℕ → FileEvent → Name) → labels.AreNamedBy recording.now naming →
+        IfOk result (λ made. script.IsText (view recording.now) naming made.1 made.0.items) }
+{
+    let events = Events::of(alloc, recording)?;
+    let entries = recording.in_order(alloc)?;
+    text_of_entries(alloc, recording, &events, &entries)
+}
