@@ -12,8 +12,8 @@
 //! `perf_data flame FILE` draws a flame graph of them, with `--inverted` from the innermost frames on.
 //! `fold --merge FILE ..` adds up such lines, and `flame --folded FILE` draws them.
 //!
-//! A FILE of `-` is standard input. The whole file is read into memory, and all of its text is made before any is written; of a
-//! large file a line on standard error says so, if that is a terminal.
+//! A FILE of `-` is standard input. The whole file is read into memory, and all of its text is made
+//! before any is written; of a large file a line on standard error says so, if that is a terminal.
 //!
 //! The exit status is 0 if every frame and feature could be read, 1 if one was refused, 2 if the file is none of
 //! `perf record` or damaged, and for other words, and 3 if reading, writing or an allocation failed.
