@@ -3,10 +3,11 @@
 //! `perf_data events FILE` prints a line for each event, with `--header` after lines of what perf states
 //! about the machine and the command. `perf_data dump FILE` prints a line for each
 //! frame in the order of the file, with `--order time` by time: what the line of `perfrec` has, and
-//! after its number the offset of the frame in the file and its event. `perf_data fold --merge FILE ..`
-//! adds up folded stacks, and `perf_data flame --folded FILE` draws a flame graph of them, with
-//! `--inverted` from the innermost frames on. A FILE of `-` is standard
-//! input. The whole file is read into memory, and all of its text is made before any is written; of a
+//! after its number the offset of the frame in the file and its event. `perf_data fold FILE` prints a
+//! line for each stack of the samples and its count, with `--weight period` the sum of their periods,
+//! and with `--frames files` without offsets; `perf_data fold --merge FILE ..` adds up such lines.
+//! `perf_data flame FILE` draws a flame graph of the same stacks, with `--folded` of lines of them, and
+//! with `--inverted` from the innermost frames on. A FILE of `-` is standard input. The whole file is read into memory, and all of its text is made before any is written; of a
 //! large file a line on standard error says so, if that is a terminal.
 //!
 //! The exit status is 0 if every frame and feature could be read, 1 if one was refused, 2 if the file is none of
