@@ -34,7 +34,7 @@ loop-entry-preserved c =
       lines =
           moved c.args.how c.loop-entry.folder.how names (texts_of c.loop-entry.folder.names.items) f (view c.loop-entry.walk.recording.now) c.args.entries.now c.loop-entry.entry-index _
           before.lines.0 (folded_lines c.loop-entry.folder.folded) (folded_lines c.go_on.new.self.folded) c.go_on.new.walk.history before.how before.names (ap view before.recording)
-          (omega (arith, c.loop-entry-test.true)) _ before.lines.2 (c.in_ok-go_on.ensures.gone before.lines.0 before.lines.1);
+          (omega (arith, c.loop-entry-test.true)) before.lines.2 (c.in_ok-go_on.ensures.gone before.lines.0 before.lines.1);
     }
 
 pub returns : goal.returns
