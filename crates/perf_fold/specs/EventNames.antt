@@ -2,7 +2,7 @@
 use Rattle.std.specs.Prelude.{◌≡◌, ◌<◌, ℕ, List, length, map, slice_index_or, string_bytes}
 use Rattle.std.specs.List.{enumerate_from}
 use Rattle.std.specs.Global.{Global}
-use Rattle.std_alloc.specs.declared.string.String.{String}
+use Rattle.std.specs.declared.string.String.{String}
 use Rattle.perf_file.specs.Names.{Name, name_view, name_text}
 use Rattle.perf_file.specs.Opened.{FileEvent, event_view}
 use Rattle.perf_file.specs.declared.events.Event.{Event}

@@ -39,11 +39,11 @@ fn push_found(
 fn push_if_empty(calls: &mut Vec<Call>, call: Call) -> Result<(), AllocError>
     ensures { OnOk result (calls.new.items ≡ stack.or_call calls.old.items call) }
 {
-    if calls.is_empty() {
-        calls.push(call)
-    } else {
-        Ok(())
+    if !calls.is_empty() {
+        return Ok(());
     }
+    calls.push(call)?;
+    Ok(())
 }
 
 // Puts the calls of a sample in place of others, the outermost first, by the frame that was found.

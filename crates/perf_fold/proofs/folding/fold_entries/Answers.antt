@@ -1,6 +1,6 @@
 use Rattle.std.proofs.Common.{[], List, ap, ◌∙◌, arith}
 use Rattle.std.specs.Global.{Vec, Global}
-use Rattle.std_alloc.specs.declared.string.String.{String}
+use Rattle.std.specs.declared.string.String.{String}
 use Rattle.perf_base.specs.Dynamic.{order_of}
 use Rattle.perf_file.specs.Views.{view}
 use Rattle.perf_flame.specs.FoldedLines.{folded_lines}

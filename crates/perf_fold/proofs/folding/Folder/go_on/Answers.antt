@@ -1,5 +1,5 @@
 use Rattle.std.proofs.Common.{ap, subst}
-use Rattle.std.specs.Prelude.{◌×◌, Option}
+use Rattle.std.specs.Prelude.{Option}
 use Rattle.perf_file.specs.Views.{view}
 use Rattle.perf_flame.specs.FoldedLines.{folded_lines}
 use Rattle.perf_walk.specs.Moments.{moment_at, known_after}
