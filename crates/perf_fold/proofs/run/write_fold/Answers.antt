@@ -8,8 +8,8 @@ returns-in-Ok g c =
     let lines = folded_lines c.in_ok-folded.folded in
     (lines, lines_of c.args.how c.args.bytes.now r lines c.in_ok-recording.ensures.exact c.in_ok-recording.ensures.named c.in_ok-folded.ensures, c.in-Ok.ensures)
 
-pub returns-in-Err : goal.returns-in-Err
-returns-in-Err g c =
+pub returns : goal.returns
+returns g c =
     let r = c.in_ok-recording.recording in
     let lines = folded_lines c.in_ok-folded.folded in
     failed c.args.how c.args.form c.args.bytes.now lines c.in-Err.error _ _

@@ -15,7 +15,7 @@ returns-in-Some-clause-gone c = λ known past.
     let own = c.args.self.now in
     let f = view c.args.walk.now.recording.now in
     let e = c.args.entry.now in
-    let after = c.step-found.new.self in
+    let after = c.step.new.self in
     let step = subst (λ (x : Option Found). Finds f (moment_at f e known) x after.frame × IsPast after.history (known_after f e known)) c.in-Some.is (c.in_ok-found.ensures.steps known past) in
     gone c.add.result f (view after.recording.now) e known c.in-Some.found after.frame after.history own.how (texts_of own.names.items) (folded_lines own.folded) (folded_lines c.add.new.self.folded)
     (ap view c.in_ok-found.ensures.recording) step (λ m is then. c.add.ensures.added m is then)
@@ -25,6 +25,6 @@ returns-in-None-clause-gone c = λ known past.
     let own = c.args.self.now in
     let f = view c.args.walk.now.recording.now in
     let e = c.args.entry.now in
-    let after = c.step-found.new.self in
+    let after = c.step.new.self in
     let step = subst (λ (x : Option Found). Finds f (moment_at f e known) x after.frame × IsPast after.history (known_after f e known)) c.in-None.is (c.in_ok-found.ensures.steps known past) in
     gone_nowhere f e known after.frame after.history own.how (texts_of own.names.items) (folded_lines own.folded) step
