@@ -215,7 +215,7 @@ input=/dev/null
 # Of a recording the stacks are those that perf prints; by files alone where a sample has no call chain.
 check 0 "$folded" fold "$file"
 check 0 "$folded" fold "$examples/big-endian.data"
-for name in machine group; do
+for name in machine; do
     check 0 "$examples/$name.files" fold --frames files "$examples/$name.data"
 done
 "${program[@]}" flame --folded "$folded" >"$work/output"

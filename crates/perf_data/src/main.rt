@@ -8,7 +8,8 @@
 //! of what perf states about the machine and the command. `perf_data script FILE` prints the samples by
 //! time, as `perf script` does.
 //!
-//! `perf_data fold FILE` prints the stacks of samples, and how many there are of each, and
+//! `perf_data fold FILE` prints the stacks of samples, and how many there are of each, with
+//! `--weight period` the sum of their periods, and with `--frames file` without offsets.
 //! `perf_data flame FILE` draws a flame graph of them, with `--inverted` from the innermost frames on.
 //! `fold --merge FILE ..` adds up such lines, and `flame --folded FILE` draws them.
 //!

@@ -1,6 +1,10 @@
 -- A sample that is added to lines.
 use Rattle.std.proofs.Common.{◌≡◌, ℕ, List, reverse, refl, sym, ◌∙◌, ap, subst}
-use Rattle.std.specs.Prelude.{Option, Some, None, option_map}
+use Rattle.std.specs.Prelude.{Option, Some, None, option_map, Result, OnOk}
+use Rattle.std.proofs.lemmas.Result.{on_ok_weaker}
+use Rattle.perf_base.specs.Configuration.{Configuration}
+use Rattle.perf_base.specs.Dynamic.{order_of}
+use Rattle.perf_flat.specs.Flat.{IsFlat}
 use Rattle.perf_base.specs.Header.{header_of}
 use Rattle.perf_base.specs.Order.{Order}
 use Rattle.perf_file.specs.Opened.{File}
@@ -61,3 +65,43 @@ known_if older m = elim m [ Some m ↦ m.known | None ↦ older ]
 -- what is known with it
 pub known_with : (f : File) (e : Entry) (older : List Change) (m : Moment) → moment_at f e older ≡ Some m → known_after f e older ≡ m.known
 known_with f e older m here = ap (known_if older) here
+
+-- a frame that is a sample was added
+pub add_some : {E : Type 0} (r : Result (Unit {0}) E) (f : File) (m : Moment) (found : Found) (flat seen : FlatFrame) (how : Choice) (names : List (List ℕ)) (lines grown : List Line) (made : Sample)
+    → seen ≡ flat → IsFrameOf f m found flat
+    → ((c : Configuration) (o : Order) (bytes : List ℕ) → IsFlat c o bytes seen → Some made ≡ option_map (sample_view seen.misc) (sample_of c o bytes))
+    → ((s : SampleValue) → sample_of m.config (order_of f.order) m.frame ≡ Some s → made ≡ sample_view flat.misc s → OnOk r (grown ≡ with_sample how names m flat.misc lines s made))
+    → OnOk r (grown ≡ add_moment how names (order_of f.order) lines m)
+add_some r f m found flat seen how names lines grown made same is sees adds =
+    let o : Order = order_of f.order in
+    let there : Some made ≡ option_map (sample_view flat.misc) (sample_of m.config o m.frame) =
+    subst (λ (x : FlatFrame). Some made ≡ option_map (sample_view x.misc) (sample_of m.config o m.frame)) same (sees m.config o m.frame (subst (λ (x : FlatFrame). IsFlat m.config o m.frame x) (sym same) is.states)) in
+    let s = sampled flat.misc (sample_of m.config o m.frame) made there in
+    on_ok_weaker r (λ eq. eq ∙ added_moment how names o lines m flat.misc s.0 made s.1 is.states.header.misc s.2) (adds s.0 s.1 s.2)
+
+-- one that is no sample adds nothing
+pub add_none : (f : File) (m : Moment) (found : Found) (flat seen : FlatFrame) (how : Choice) (names : List (List ℕ)) (lines : List Line) → seen ≡ flat → IsFrameOf f m found flat
+    → ((c : Configuration) (o : Order) (bytes : List ℕ) → IsFlat c o bytes seen → None ≡ option_map (sample_view seen.misc) (sample_of c o bytes)) → lines ≡ add_moment how names (order_of f.order) lines m
+add_none f m found flat seen how names lines same is sees =
+    let o : Order = order_of f.order in
+    no_moment how names o lines m (unsampled seen.misc (sample_of m.config o m.frame) (sees m.config o m.frame (subst (λ (x : FlatFrame). IsFlat m.config o m.frame x) (sym same) is.states)))
+
+-- a step to a frame, which was added
+pub gone : {E : Type 0} (r : Result (Unit {0}) E) (f g : File) (e : Entry) (known : List Change) (found : Found) (flat : FlatFrame) (history : History) (how : Choice) (names : List (List ℕ)) (lines grown : List Line)
+    → g ≡ f → Finds f (moment_at f e known) (Some found) flat × IsPast history (known_after f e known)
+    → ((m : Moment) → IsFrameOf g m found flat → IsPast history m.known → OnOk r (grown ≡ add_moment how names (order_of g.order) lines m))
+    → OnOk r (IsPast history (known_after f e known) × (grown ≡ add_if how names (order_of f.order) lines (moment_at f e known)))
+gone r f g e known found flat history how names lines grown same step adds =
+    let m = found_moment f (moment_at f e known) found flat step.0 in
+    let is : IsFrameOf g m.0 found flat = subst (λ (h : File). IsFrameOf h m.0 found flat) (sym same) m.2 in
+    let past : IsPast history m.0.known = subst (IsPast history) (known_with f e known m.0 m.1) step.1 in
+    on_ok_weaker r (λ eq. (
+      step.1,
+      eq ∙ ap (λ (h : File). add_moment how names (order_of h.order) lines m.0) same ∙ sym (ap (add_if how names (order_of f.order) lines) m.1),
+    )) (adds m.0 is past)
+
+-- a step to no frame
+pub gone_nowhere : (f : File) (e : Entry) (known : List Change) (flat : FlatFrame) (history : History) (how : Choice) (names : List (List ℕ)) (lines : List Line) → Finds f (moment_at f e known) None flat × IsPast history (known_after f e known)
+    → IsPast history (known_after f e known) × (lines ≡ add_if how names (order_of f.order) lines (moment_at f e known))
+gone_nowhere f e known flat history how names lines step =
+    (step.1, sym (ap (add_if how names (order_of f.order) lines) (no_frame f (moment_at f e known) flat step.0)))

@@ -1,6 +1,10 @@
 -- The lines of the bytes of a file.
 use Rattle.std.proofs.Common.{◌≡◌, ℕ, ◌<◌, List, length, get_or, subst}
-use Rattle.std.specs.Prelude.{Ok}
+use Rattle.std.specs.Prelude.{Option, Ok, Err}
+use Rattle.perf_folded.specs.Written.{WritesForm}
+use Rattle.perf_folded.specs.declared.error.TextError.{TextError}
+use Rattle.perf_folded.specs.declared.error.TextError.TheVariants as texts
+use Rattle.perf_folded.specs.declared.form.Form.{Form}
 use Rattle.perf_file.specs.Forms.{opened, event_name}
 use Rattle.perf_file.specs.Names.{name_view}
 use Rattle.perf_file.specs.Opened.{event_view}
@@ -10,7 +14,8 @@ use Rattle.perf_file.specs.declared.opening.Recording.{Recording}
 use Rattle.perf_flame.specs.Lines.{Line}
 use Rattle.perf_fold.specs.EventNames.{own_names}
 use Rattle.perf_fold.specs.Folds.{IsFoldOf}
-use Rattle.perf_fold.specs.Written.{AreLinesOf}
+use Rattle.perf_fold.specs.Written.{AreLinesOf, WritesFold}
+use Rattle.perf_fold.specs.declared.error.FoldError.TheVariants as errors
 use Rattle.perf_fold.specs.declared.folding.Choice.{Choice}
 use Rattle.perf_fold.proofs.NamesAlike.{named_by}
 
@@ -22,3 +27,10 @@ pub lines_of : (how : Choice) (bytes : List ℕ) (r : Recording) (lines : List L
     → AreLinesOf how bytes lines
 lines_of how bytes r lines found named fold =
     (view r, found, subst (λ names. IsFoldOf how names (view r) lines) (named_by (event_name bytes (view r)) r.events.items named) fold)
+
+-- there is no text of them, or memory ran out
+pub failed : (how : Choice) (form : Form) (bytes : List ℕ) (lines : List Line) (e : TextError) (old new : Option (List ℕ)) → AreLinesOf how bytes lines → WritesForm form lines (Err e) old new
+    → WritesFold how form bytes (Err (errors.Text e)) old new
+failed how form bytes lines (texts.BadLine text line) old new are writes = (lines, are, writes)
+failed how form bytes lines texts.TooMany old new are writes = (lines, are, writes)
+failed how form bytes lines texts.OutOfMemory old new are writes = writes.1

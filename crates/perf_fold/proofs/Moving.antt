@@ -1,13 +1,16 @@
 -- The lines of the frames of entries, one entry after another.
-use Rattle.std.proofs.Common.{◌≡◌, ℕ, suc, ◌+◌, ◌<◌, List, [], ◌∷◌, length, drop, get_or, fold, refl, sym, ◌∙◌, ap, subst, drop-cons, arith}
+use Rattle.std.proofs.Common.{◌≡◌, ℕ, suc, ◌+◌, ◌<◌, ◌≤◌, List, [], ◌∷◌, length, drop, get_or, fold, refl, sym, ◌∙◌, ap, subst, drop-cons, arith}
 use Rattle.std.specs.Prelude.{Option, Some, None}
 use Rattle.std.specs.List.{cons_option}
+use Rattle.std.proofs.lemmas.List.{drop_all}
 use Rattle.perf_base.specs.Dynamic.{order_of}
 use Rattle.perf_base.specs.Order.{Order}
 use Rattle.perf_file.specs.Opened.{File}
 use Rattle.perf_file.specs.declared.entries.Entry.{Entry}
 use Rattle.perf_flame.specs.Lines.{Line}
 use Rattle.perf_history.specs.declared.changes.Change.{Change}
+use Rattle.perf_history.specs.declared.histories.History.{History}
+use Rattle.perf_walk.specs.Plain.{IsPast}
 use Rattle.perf_walk.specs.Moments.{Moment, moments, moment_at, known_after}
 use Rattle.perf_fold.specs.Folds.{add_if, add_moments}
 use Rattle.perf_fold.specs.declared.folding.Choice.{Choice}
@@ -23,15 +26,35 @@ AreSoFar how names f entries left known lines =
     add_moments how names (order_of f.order) lines (moments f left known) ≡ add_moments how names (order_of f.order) [] (moments f entries [])
 
 -- and then one more
-pub one_more : (how : Choice) (names : List (List ℕ)) (f : File) (entries : List Entry) (i : ℕ) (e : Entry) (known : List Change) (lines grown : List Line) → i < length entries → e ≡ get_or entries i e
-    → AreSoFar how names f entries (drop i entries) known lines → grown ≡ add_if how names (order_of f.order) lines (moment_at f e known)
-    → AreSoFar how names f entries (drop (i + 1) entries) (known_after f e known) grown
-one_more how names f entries i e known lines grown below here so more =
+pub one_more : (how : Choice) (names : List (List ℕ)) (f : File) (entries : List Entry) (i : ℕ) (d : Entry) (known : List Change) (lines grown : List Line) → i < length entries
+    → AreSoFar how names f entries (drop i entries) known lines → grown ≡ add_if how names (order_of f.order) lines (moment_at f (get_or entries i d) known)
+    → AreSoFar how names f entries (drop (i + 1) entries) (known_after f (get_or entries i d) known) grown
+one_more how names f entries i d known lines grown below so more =
     let o : Order = order_of f.order in
+    let e : Entry = get_or entries i d in
     let next : suc i ≡ i + 1 = omega arith in
-    let split : drop i entries ≡ e ∷ drop (i + 1) entries =
-    drop-cons entries i e below ∙ ap (λ n. get_or entries i e ∷ drop n entries) next ∙ ap (λ x. x ∷ drop (i + 1) entries) (sym here) in
+    let split : drop i entries ≡ e ∷ drop (i + 1) entries = drop-cons entries i d below ∙ ap (λ n. e ∷ drop n entries) next in
     ap (λ ls. add_moments how names o ls (moments f (drop (i + 1) entries) (known_after f e known))) more
     ∙ sym (add_one how names o lines (moment_at f e known) (moments f (drop (i + 1) entries) (known_after f e known)))
     ∙ ap (λ es. add_moments how names o lines (moments f es known)) (sym split)
     ∙ so
+
+-- the same in other words for the same
+pub moved : (how taken : Choice) (names given : List (List ℕ)) (f g : File) (entries : List Entry) (i : ℕ) (d : Entry) (known : List Change) (lines grown : List Line) (history : History) → taken ≡ how → given ≡ names → g ≡ f
+    → i < length entries → AreSoFar how names f entries (drop i entries) known lines
+    → IsPast history (known_after g (get_or entries i d) known) × (grown ≡ add_if taken given (order_of g.order) lines (moment_at g (get_or entries i d) known))
+    → (next : List Change) × IsPast history next × AreSoFar how names f entries (drop (i + 1) entries) next grown
+moved how taken names given f g entries i d known lines grown history same_how same_names same below so gone =
+    let e : Entry = get_or entries i d in
+    let past : IsPast history (known_after f e known) = subst (λ (x : File). IsPast history (known_after x e known)) same gone.0 in
+    let grew : grown ≡ add_if how names (order_of f.order) lines (moment_at f e known) =
+    gone.1 ∙ ap (λ (h : Choice). add_if h given (order_of g.order) lines (moment_at g e known)) same_how
+    ∙ ap (λ (ns : List (List ℕ)). add_if how ns (order_of g.order) lines (moment_at g e known)) same_names
+    ∙ ap (λ (x : File). add_if how names (order_of x.order) lines (moment_at x e known)) same in
+    (known_after f e known, past, one_more how names f entries i d known lines grown below so grew)
+
+-- all of them
+pub all_moved : (how : Choice) (names : List (List ℕ)) (f : File) (entries : List Entry) (i : ℕ) (known : List Change) (lines : List Line) → length entries ≤ i → AreSoFar how names f entries (drop i entries) known lines
+    → lines ≡ add_moments how names (order_of f.order) [] (moments f entries [])
+all_moved how names f entries i known lines all so =
+    sym (ap (λ (es : List Entry). add_moments how names (order_of f.order) lines (moments f es known)) (drop_all i entries all)) ∙ so

@@ -1,5 +1,5 @@
 -- The stack of a sample.
-use Rattle.std.specs.Prelude.{ℕ, List, [], ◌∷◌, ◌++◌, length, nat_lt, get_or, map, reverse, if◌then◌else◌}
+use Rattle.std.specs.Prelude.{ℕ, ◌==◌, List, [], ◌∷◌, ◌++◌, length, nat_lt, get_or, map, reverse, if◌then◌else◌}
 use Rattle.std.specs.List.{flat_map}
 use Rattle.perf_base.specs.Attribute.{or_zero}
 use Rattle.perf_flame.specs.Stacks.{clean, frame_text}
@@ -16,8 +16,7 @@ use Rattle.perf_walk.specs.declared.sampling.Sample.{Sample}
 
 -- these calls, or that one if there are none
 abbrev pub or_call : List Call → Call → List Call
-or_call [] c = c ∷ []
-or_call (x ∷ xs) c = x ∷ xs
+or_call calls c = if length calls == 0 then c ∷ [] else calls
 
 -- the calls of a sample, the innermost first: those of its chain, or that of its instruction
 abbrev pub sample_calls : (misc : ℕ) → SampleValue → List Call

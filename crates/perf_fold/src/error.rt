@@ -35,14 +35,6 @@ impl From<OpenError> for FoldError {
     }
 }
 
-impl From<TextError> for FoldError {
-    ghost from_gives = { λ error e. e ≡ errors.Text error };
-
-    fn from(error: TextError) -> FoldError {
-        FoldError::Text(error)
-    }
-}
-
 /// What is wrong, and what to do.
 impl fmt::Display for FoldError {
     ghost output = { λ e. Some (messages.message e) };

@@ -100,20 +100,21 @@ impl Folder {
         ensures how { self.new.how ≡ self.old.how }
         ensures names { self.new.names ≡ self.old.names }
     {
-        let order = walk.recording().order();
-        put_calls(&mut self.calls, order, found.bytes, walk.frame(), sample)?;
+        put_calls(&mut self.calls, walk, found, sample)?;
         let frames = self.how.frames;
+        let names = &self.names;
+        let calls = &self.calls;
         put_stack(
             &mut self.stacks,
             walk,
-            &self.names,
+            names,
             found.event,
             frames,
             sample,
-            &self.calls,
+            calls,
         )?;
-        self.folded
-            .add(self.stacks.text(), weight_of(self.how.weight, sample))
+        let weight = weight_of(self.how.weight, sample);
+        self.folded.add(self.stacks.text(), weight)
     }
 
     // Adds the sample of a frame that was found, if it is one.
@@ -126,7 +127,8 @@ impl Folder {
         ensures how { self.new.how ≡ self.old.how }
         ensures names { self.new.names ≡ self.old.names }
     {
-        match sample_in(walk.frame()) {
+        let frame = walk.frame();
+        match sample_in(frame) {
             Some(sample) => self.add_sample(walk, found, &sample),
             None => Ok(()),
         }
@@ -143,7 +145,8 @@ impl Folder {
         ensures names { self.new.names ≡ self.old.names }
         ensures recording { walk.new.recording.now ≡ walk.old.recording.now }
     {
-        match walk.step(entry)? {
+        let found = walk.step(entry)?;
+        match found {
             Some(found) => self.add(walk, &found),
             None => Ok(()),
         }
@@ -176,7 +179,8 @@ fn fold_entries(
         (moments (view recording.now) entries.now [])) }
 {
     let mut walk = Walk::new(alloc, recording);
-    let mut folder = Folder::new(alloc, how, names_of(alloc, recording)?);
+    let names = names_of(alloc, recording)?;
+    let mut folder = Folder::new(alloc, how, names);
     for entry in entries {
         folder.go_on(&mut walk, entry)?;
     }

@@ -28,7 +28,10 @@ pub fn write_fold<W: Write>(
 {
     let recording = Recording::open(alloc, bytes)?;
     let folded = fold(alloc, &recording, how)?;
-    Ok(write_folded(alloc, &folded, form, writer)?)
+    match write_folded(alloc, &folded, form, writer) {
+        Ok(outcome) => Ok(outcome),
+        Err(error) => Err(FoldError::Text(error)),
+    }
 }
 
 /// The exit status after that: that of its outcome, 2 if the file cannot be opened or the form is

@@ -1,47 +1,71 @@
 //! The stack of a sample.
 
 ghost use Rattle.std.specs.Prelude.{◌≡◌, ◌++◌, ℕ, List, OnOk, Some, map, reverse};
-ghost use Rattle.perf_base.specs.Configuration.{Configuration};
 ghost use Rattle.perf_base.specs.Dynamic.{order_of};
+ghost use Rattle.perf_file.specs.Views.{view};
 ghost use Rattle.perf_flame.specs.Stacks.{clean};
-ghost use Rattle.perf_flat.specs.Flat.{IsFlat};
 ghost use Rattle.perf_history.specs.Histories.{name_of};
 ghost use Rattle.perf_history.specs.declared.changes.Change.{Change};
 ghost use Rattle.perf_sample_types.specs.Sample.{SampleValue};
 ghost use Rattle.perf_stacks.specs.Grown.{text_of};
 ghost use Rattle.perf_stacks.specs.Names.{thread_name};
 ghost use Rattle.perf_walk.specs.Plain.{IsPast};
-ghost use Rattle.perf_walk.specs.Samples as samples;
+ghost use Rattle.perf_walk.specs.Calls.{calls_of};
+ghost use Rattle.perf_walk.specs.Moments.{Moment};
+ghost use Rattle.perf_walk.specs.Samples.{sample_of, sample_view};
+ghost use Rattle.perf_walk.specs.Steps.{IsFrameOf};
 ghost use Rattle.perf_fold.specs.EventNames.{texts_of};
 ghost use Rattle.perf_fold.specs.SampleStacks as stack;
 
-use perf_base::endian::Dynamic;
-use perf_flat::frame::FlatFrame;
 use perf_stacks::{Frames, Stacks};
-use perf_walk::{Call, Sample, Walk, push_calls};
+use perf_walk::{Call, Found, Sample, Walk, push_calls};
 use std::alloc::AllocError;
 
-// Puts the calls of a sample in place of others, the outermost first, by the bytes of its frame.
+// Appends the calls of the chain of a sample, the innermost first, by the frame that was found.
+fn push_found(
+    calls: &mut Vec<Call>,
+    walk: &Walk<'_, '_>,
+    found: &Found<'_>,
+) -> Result<(), AllocError>
+    ensures { (m : Moment) (s : SampleValue) →
+        IsFrameOf (view walk.now.recording.now) m found.now walk.now.frame →
+        sample_of m.config (order_of (view walk.now.recording.now).order) m.frame ≡ Some s →
+        OnOk result (calls.new.items ≡ calls.old.items ++ calls_of s) }
+{
+    push_calls(calls, walk.recording().order(), found.bytes, walk.frame())
+}
+
+// Appends a call, if there are none.
+fn push_if_empty(calls: &mut Vec<Call>, call: Call) -> Result<(), AllocError>
+    ensures { OnOk result (calls.new.items ≡ stack.or_call calls.old.items call) }
+{
+    if !calls.is_empty() {
+        return Ok(());
+    }
+    calls.push(call)?;
+    Ok(())
+}
+
+// Puts the calls of a sample in place of others, the outermost first, by the frame that was found.
 pub(crate) fn put_calls(
     calls: &mut Vec<Call>,
-    order: Dynamic,
-    bytes: &[u8],
-    frame: &FlatFrame,
+    walk: &Walk<'_, '_>,
+    found: &Found<'_>,
     sample: &Sample,
 ) -> Result<(), AllocError>
-    ensures { (c : Configuration) (s : SampleValue) → IsFlat c (order_of order) bytes.now frame.now →
-        samples.sample_of c (order_of order) bytes.now ≡ Some s →
-        sample.now ≡ samples.sample_view frame.now.misc s →
-        OnOk result (calls.new.items ≡ reverse (stack.sample_calls frame.now.misc s)) }
+    ensures { (m : Moment) (s : SampleValue) →
+        IsFrameOf (view walk.now.recording.now) m found.now walk.now.frame →
+        sample_of m.config (order_of (view walk.now.recording.now).order) m.frame ≡ Some s →
+        sample.now ≡ sample_view walk.now.frame.misc s →
+        OnOk result (calls.new.items ≡ reverse (stack.sample_calls walk.now.frame.misc s)) }
 {
     calls.clear();
-    push_calls(calls, order, bytes, frame)?;
-    if calls.is_empty() {
-        calls.push(Call {
-            mode: sample.mode,
-            address: sample.ip,
-        })?;
-    }
+    push_found(calls, walk, found)?;
+    let own = Call {
+        mode: sample.mode,
+        address: sample.ip,
+    };
+    push_if_empty(calls, own)?;
     calls.reverse();
     Ok(())
 }

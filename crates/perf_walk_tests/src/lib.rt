@@ -1,5 +1,5 @@
-//! A walk through a recording that was made by hand, and call chains. Without its tests this crate
-//! is empty.
+//! A walk through a recording that was made by hand, its folded stacks, and call chains. Without its
+//! tests this crate is empty.
 #![tactic(auto)]
 
 #[cfg(test)]

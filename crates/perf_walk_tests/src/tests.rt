@@ -1,5 +1,6 @@
 //! The tests.
 
 mod chains;
+mod folds;
 mod recording;
 mod walks;

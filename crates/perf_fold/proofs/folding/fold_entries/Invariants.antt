@@ -11,7 +11,7 @@ use Rattle.perf_fold.proofs.folding.fold_entries.Given as goal
 abbrev pub invariant-loop-entry : goal.invariant-loop-entry
 invariant-loop-entry l = record {
   recording : l.walk.recording.now ≡ l.recording;
-  how : l.folder.how ≡ l.how;
+  how : l.folder.how ≡ l.fn.how;
   names : texts_of l.folder.names.items ≡ own_names l.recording.events.items;
-  lines : (known : List Change) × IsPast l.walk.history known × AreSoFar l.how (own_names l.recording.events.items) (view l.recording) l.entries (drop l.entry-index l.entries) known (folded_lines l.folder.folded);
+  lines : (known : List Change) × IsPast l.walk.history known × AreSoFar l.fn.how (own_names l.recording.events.items) (view l.recording) l.entries (drop l.entry-index l.entries) known (folded_lines l.folder.folded);
 }

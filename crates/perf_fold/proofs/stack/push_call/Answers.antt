@@ -9,5 +9,5 @@ pub returns : goal.returns
 returns c = λ known past.
     let mode = c.args.call.mode in
     let address : ℕ = c.args.call.address in
-    let same = frame_same c.args.frames mode address c.place.result ∙ ap (frame_name c.args.frames mode address) (c.place.ensures known past) in
-    subst (λ (name : List ℕ). OnOk c.push.result (text_of c.push.new.stacks ≡ text_of c.args.stacks.now ++ frame_text name)) same c.push.ensures
+    let same = frame_same c.args.frames mode address c.place-place.result ∙ ap (frame_name c.args.frames mode address) (c.place-place.ensures known past) in
+    subst (λ (name : List ℕ). OnOk c.push.result (text_of c.push.new.self ≡ text_of c.args.stacks.now ++ frame_text name)) same c.push.ensures

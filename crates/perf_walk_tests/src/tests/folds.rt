@@ -1,0 +1,70 @@
+//! The folded stacks of the recording, computed by hand.
+
+use crate::tests::recording::recording;
+use perf_file::Recording;
+use perf_fold::{Choice, FoldError, Weight, fold, status_after, write_fold};
+use perf_folded::Form;
+use perf_lines::outcome::Outcome;
+use perf_stacks::Frames;
+use std::alloc::Global;
+use std::process::Abort;
+
+const OFFSETS: Choice = Choice {
+    frames: Frames::Offsets,
+    weight: Weight::Samples,
+};
+
+const PERIODS: Choice = Choice {
+    frames: Frames::Files,
+    weight: Weight::Period,
+};
+
+// What is written of the recording, or of its first bytes.
+fn written(alloc: Global, len: usize, how: Choice) -> (Result<Outcome, FoldError>, Vec<u8>) {
+    let mut text = Vec::new(alloc);
+    let ended = match recording(alloc) {
+        Ok(bytes) => match bytes.get(..len) {
+            Some(part) => write_fold(alloc, part, how, Form::Lines, &mut text),
+            None => write_fold(alloc, &bytes, how, Form::Lines, &mut text),
+        },
+        Err(error) => Err(error.into()),
+    };
+    (ended, text)
+}
+
+#[test]
+fn stacks_of_a_recording(rt: HostRuntime) {
+    let (ended, text) = written(rt.alloc(), usize::MAX, OFFSETS);
+    assert_eq!(rt; status_after(&ended), 0);
+    let want = b"ls;[unknown] 1\nls;ls+0x40 1\nsh;ls+0x20;sh+0x210;0xffffffff81000010_[k] 1\n";
+    assert_eq!(rt; text.as_slice(), want.as_slice());
+}
+
+#[test]
+fn periods_of_files(rt: HostRuntime) {
+    let (_, text) = written(rt.alloc(), usize::MAX, PERIODS);
+    let want = b"ls;[unknown] 13\nls;ls 12\nsh;ls;sh;0xffffffff81000010_[k] 11\n";
+    assert_eq!(rt; text.as_slice(), want.as_slice());
+}
+
+#[test]
+fn no_file(rt: HostRuntime) {
+    let (ended, text) = written(rt.alloc(), 7, OFFSETS);
+    assert_eq!(rt; status_after(&ended), 2);
+    assert!(rt; text.is_empty());
+}
+
+#[test]
+fn sum_of_counts(rt: HostRuntime) {
+    let alloc = rt.alloc();
+    match recording(alloc) {
+        Ok(bytes) => match Recording::open(alloc, &bytes) {
+            Ok(recording) => match fold(alloc, &recording, PERIODS) {
+                Ok(folded) => assert_eq!(rt; folded.total(), Some(36)),
+                Err(_) => panic!(rt; "no memory"),
+            },
+            Err(error) => panic!(rt; "{error}"),
+        },
+        Err(_) => panic!(rt; "no memory"),
+    }
+}
