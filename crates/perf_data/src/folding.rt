@@ -26,7 +26,7 @@ fn stack_words<'a>(alloc: Global, command: Command<'a>) -> Result<Command<'a>, A
     let frames = Arg::new(alloc, "frames")
         .long("frames")
         .value_name("NAMES")
-        .value_parser(["offsets", "files"].as_slice())
+        .value_parser(["offsets", "file"].as_slice())
         .default_value("offsets")
         .help("What frames are named by: files and offsets in them, or files alone");
     let weight = Arg::new(alloc, "weight")
@@ -83,7 +83,7 @@ pub fn flame(rt: &HostRuntime, words: &ArgMatches<'_>) -> io::Result<u8> {
 fn choice(words: &ArgMatches<'_>) -> Choice {
     Choice {
         frames: match words.get_str("frames") {
-            Some("files") => Frames::Files,
+            Some("file") => Frames::Files,
             _ => Frames::Offsets,
         },
         weight: match words.get_str("weight") {
