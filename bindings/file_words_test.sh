@@ -216,7 +216,7 @@ input=/dev/null
 check 0 "$folded" fold "$file"
 check 0 "$folded" fold "$examples/big-endian.data"
 for name in machine; do
-    check 0 "$examples/$name.files" fold --frames files "$examples/$name.data"
+    check 0 "$examples/$name.files" fold --frames file "$examples/$name.data"
 done
 "${program[@]}" flame --folded "$folded" >"$work/output"
 check 0 "$work/output" flame "$file"
