@@ -1,5 +1,5 @@
 -- The names of threads and frames depend on the bytes of byte strings alone.
-use Rattle.std.proofs.Common.{◌≡◌, ℕ, List, ◌++◌, refl, sym, ◌∙◌, ap}
+use Rattle.std.proofs.Common.{◌≡◌, ℕ, ◌++◌, refl, ap}
 use Rattle.std.specs.Prelude.{Option, Some, None, option_map}
 use Rattle.perf_history.specs.declared.changes.Mode.{Mode}
 use Rattle.perf_history.specs.declared.changes.Mode.TheVariants.{Kernel, User, Other}

@@ -1,12 +1,11 @@
 -- The names of the events of an open file.
-use Rattle.std.specs.Prelude.{◌≡◌, ◌<◌, ℕ, List, length, map, slice_index_or, string_bytes}
+use Rattle.std.specs.Prelude.{ℕ, List, map, string_bytes}
 use Rattle.std.specs.List.{enumerate_from}
 use Rattle.std.specs.Global.{Global}
 use Rattle.std.specs.declared.string.String.{String}
 use Rattle.perf_file.specs.Names.{Name, name_view, name_text}
-use Rattle.perf_file.specs.Opened.{FileEvent, event_view}
+use Rattle.perf_file.specs.Opened.{FileEvent}
 use Rattle.perf_file.specs.declared.events.Event.{Event}
-use Rattle.perf_file.specs.declared.opening.Recording.{Recording}
 
 -- the texts of strings
 abbrev pub texts_of : List (String Global) → List (List ℕ)

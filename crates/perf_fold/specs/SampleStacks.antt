@@ -1,5 +1,5 @@
 -- The stack of a sample.
-use Rattle.std.specs.Prelude.{ℕ, ◌==◌, List, [], ◌∷◌, ◌++◌, length, nat_lt, get_or, map, reverse, if◌then◌else◌}
+use Rattle.std.specs.Prelude.{ℕ, ◌==◌, List, [], ◌∷◌, ◌++◌, length, nat_lt, get_or, map, if◌then◌else◌}
 use Rattle.std.specs.List.{flat_map}
 use Rattle.perf_base.specs.Attribute.{or_zero}
 use Rattle.perf_flame.specs.Stacks.{clean, frame_text}

@@ -159,6 +159,7 @@ impl Folder {
 /// A stack is the name of the thread, the name of the event if the file has several, and the frames
 /// of the call chain from the outermost to the innermost. Without addresses in the chain, the
 /// address of the instruction is the one frame.
+/// A sample of a group counts once, for the event of its frame.
 pub fn fold(alloc: Global, recording: &Recording<'_>, how: Choice) -> Result<Folded, AllocError>
     ensures { IfOk result (λ folded. folds.IsFoldOf how (own_names recording.now.events.items)
         (view recording.now) (folded_lines folded)) }

@@ -1,10 +1,9 @@
 -- The changes that are made of the numbers and the byte strings of a flat frame.
-use Rattle.std.proofs.Common.{◌≡◌, ℕ, Bool, not, List, get_or, refl, sym, ◌∙◌, ap}
+use Rattle.std.proofs.Common.{◌≡◌, ℕ, Bool, not, List, get_or, refl, ◌∙◌, ap}
 use Rattle.perf_flat.specs.Arrays.{filled, low_u32}
 use Rattle.perf_flat.specs.Strings.{span_at}
 use Rattle.perf_flat.specs.declared.frame.FlatFrame.{FlatFrame}
 use Rattle.perf_history.specs.Modes.{mode_of}
-use Rattle.perf_history.specs.declared.changes.Change.{Change}
 use Rattle.perf_history.specs.declared.changes.Change.TheVariants.{Comm, Fork, Map, Symbol}
 use Rattle.perf_history.specs.declared.changes.Identity.{Identity}
 use Rattle.perf_history.specs.declared.changes.Identity.TheVariants.{Unknown}

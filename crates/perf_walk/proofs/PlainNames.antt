@@ -1,5 +1,5 @@
 -- Names and places depend on changes by the bytes of their byte strings alone.
-use Rattle.std.proofs.Common.{◌≡◌, ℕ, ◌==◌, ◌&&◌, Bool, true, false, List, [], ◌∷◌, map, refl, sym, ◌∙◌, ap, if◌then◌else◌}
+use Rattle.std.proofs.Common.{◌≡◌, ℕ, ◌==◌, ◌&&◌, Bool, true, false, List, [], ◌∷◌, map, refl, ◌∙◌, ap, if◌then◌else◌}
 use Rattle.std.specs.Prelude.{Option, Some, None, option_map, option_and_then}
 use Rattle.std.specs.Borrow.{Bor}
 use Rattle.perf_history.specs.FileNames.{keeps_address}
@@ -14,7 +14,6 @@ use Rattle.perf_history.specs.declared.changes.Change.TheVariants.{Comm, Fork, M
 use Rattle.perf_history.specs.declared.changes.Map as maps
 use Rattle.perf_history.specs.declared.changes.Symbol as symbols
 use Rattle.perf_history.specs.declared.changes.Mode.{Mode}
-use Rattle.perf_history.specs.declared.names.Name.{Name}
 use Rattle.perf_history.specs.declared.places.File.TheVariants as files
 use Rattle.perf_history.specs.declared.places.Mapping.{Mapping}
 use Rattle.perf_walk.specs.Plain.{lent, plain, plain_identity, plain_name, plain_file, plain_place}

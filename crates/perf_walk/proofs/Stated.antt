@@ -1,13 +1,13 @@
 -- What a flat frame states, by the type that was read.
-use Rattle.std.proofs.Common.{◌≡◌, ℕ, zero, suc, ◌+◌, ◌≤◌, List, [], ◌∷◌, length, take, drop, true, false, refl, sym, ◌∙◌, ap, subst, inl, inr, arith}
+use Rattle.std.proofs.Common.{◌≡◌, ℕ, suc, ◌+◌, List, [], length, true, refl, sym, ◌∙◌, ap, subst, arith}
 use Rattle.std.specs.Prelude.{Option, Some, None, Result, Ok, Err, nat_le}
 use Rattle.std.proofs.lemmas.Bool.{le-leb}
 use Rattle.perf_base.specs.Configuration.{Configuration, under_misc}
 use Rattle.perf_base.specs.Header.{header_of}
-use Rattle.perf_base.specs.Layout.{Parts, map_parts, value, slice}
+use Rattle.perf_base.specs.Layout.{Parts, map_parts, value}
 use Rattle.perf_base.specs.Order.{Order}
 use Rattle.perf_base.specs.declared.error.ErrorKind.{ErrorKind}
-use Rattle.perf_flat.specs.Flat.{IsFlat, StatesAnswer, StatesRecord, StatesRefusal, read_type, ids_of, numbers_under}
+use Rattle.perf_flat.specs.Flat.{IsFlat, StatesAnswer, StatesRecord, read_type}
 use Rattle.perf_flat.specs.Arrays.{no_span}
 use Rattle.perf_flat.specs.Strings.{HasBytes, HasStrings, if_there, span_at}
 use Rattle.perf_flat.specs.declared.frame.FlatFrame.{FlatFrame}

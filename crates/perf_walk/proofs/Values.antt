@@ -1,5 +1,5 @@
 -- The record in a frame, by the type that was read.
-use Rattle.std.proofs.Common.{◌≡◌, ℕ, zero, suc, ◌+◌, ◌-◌, ◌==◌, Bool, true, false, List, [], ◌∷◌, length, drop, refl, sym, ◌∙◌, ap, subst, if◌then◌else◌}
+use Rattle.std.proofs.Common.{◌≡◌, ℕ, suc, ◌+◌, ◌-◌, ◌==◌, Bool, true, false, List, length, drop, refl, sym, ◌∙◌, ap, if◌then◌else◌}
 use Rattle.std.specs.Prelude.{Option, Some, None, Result, Ok, Err, nat_lt}
 use Rattle.std.proofs.lemmas.Bool.{eqb-true}
 use Rattle.perf_base.specs.Configuration.{Configuration, under_misc}
@@ -30,7 +30,6 @@ use Rattle.perf_types.specs.Namespaces.{namespaces}
 use Rattle.perf_types.specs.KSymbol.{ksymbol}
 use Rattle.perf_types.specs.CGroup.{cgroup}
 use Rattle.perf_types.specs.TextPoke.{text_poke}
-use Rattle.perf_history.specs.declared.changes.Change.{Change}
 use Rattle.perf_walk.specs.Changes.{change_in}
 use Rattle.perf_walk.specs.Samples.{sample_if}
 

@@ -1,5 +1,5 @@
 -- The frame of an entry, and what is known after it.
-use Rattle.std.proofs.Common.{◌≡◌, ℕ, ◌≤◌, List, length, take, refl, sym, ◌∙◌, ap, subst}
+use Rattle.std.proofs.Common.{◌≡◌, ℕ, List, take, refl, sym, ◌∙◌, ap, subst}
 use Rattle.std.specs.Prelude.{max, Option, Some, None, option_map, option_and_then}
 use Rattle.std.specs.List.{cons_option}
 use Rattle.perf_base.specs.Configuration.{Configuration}
@@ -19,7 +19,7 @@ use Rattle.perf_history.specs.declared.histories.History.{History}
 use Rattle.perf_walk.specs.Changes.{change_of}
 use Rattle.perf_walk.specs.Moments.{Moment, frame_at, moment, moment_at, known_after, event_of}
 use Rattle.perf_walk.specs.Plain.{IsPast}
-use Rattle.perf_walk.specs.Steps.{Finds, IsFrameOf}
+use Rattle.perf_walk.specs.Steps.{Finds}
 use Rattle.perf_walk.specs.declared.walk.Found.{Found}
 
 -- the frame at an offset, and what was read of it

@@ -1,5 +1,5 @@
 -- The calls of a call chain.
-use Rattle.std.specs.Prelude.{ℕ, ◌==◌, Bool, List, [], ◌∷◌, nat_le, Option, Some, None, if◌then◌else◌}
+use Rattle.std.specs.Prelude.{ℕ, ◌==◌, Bool, List, [], ◌∷◌, nat_le, Some, None, if◌then◌else◌}
 use Rattle.perf_history.specs.declared.changes.Mode.{Mode}
 use Rattle.perf_history.specs.declared.changes.Mode.TheVariants.{Kernel, User, Other}
 use Rattle.perf_sample_types.specs.Sample.{SampleValue}

@@ -1,5 +1,5 @@
 -- What a frame states about threads and memory.
-use Rattle.std.specs.Prelude.{ℕ, Bool, not, List, [], Option, Some, None, Result, Ok, Err, if◌then◌else◌}
+use Rattle.std.specs.Prelude.{ℕ, not, List, [], Option, Some, None, Result, Ok, Err, if◌then◌else◌}
 use Rattle.perf_base.specs.Attribute.{or_zero}
 use Rattle.perf_base.specs.Configuration.{Configuration}
 use Rattle.perf_base.specs.Header.{header_of}

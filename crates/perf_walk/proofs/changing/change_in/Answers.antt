@@ -1,4 +1,4 @@
-use Rattle.std.proofs.Common.{ap, sym, refl}
+use Rattle.std.proofs.Common.{sym, refl}
 use Rattle.perf_history.specs.declared.changes.Change.TheVariants as change
 use Rattle.perf_records.specs.Records.{mmap_is, comm_is, fork_is, mmap2_is, ksymbol_is}
 use Rattle.perf_types.specs.Comm.{comm}
