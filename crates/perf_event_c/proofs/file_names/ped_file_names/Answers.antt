@@ -19,3 +19,6 @@ returns-in-None-clause-file c f whole read have room =
     let plain = sym c.in-None.ensures.value in
     let form = form_none bytes plain in
     file_named bytes f c.args.all.now c.find_in_file.new.all plain (sym form.1 ∙ whole) read.all have (λ h is. (c.find_in_file.ensures.named h is).1)
+
+pub returns-in-None-clause-refused : goal.returns-in-None-clause-refused
+returns-in-None-clause-refused c e plain is room = c.find_in_file.ensures.refused e is
