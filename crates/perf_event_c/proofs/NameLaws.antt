@@ -200,8 +200,10 @@ named_alike o t k (n ∷ ns) = go (named_alike o t k ns) (is_note n) refl (is_of
     older : (a : Option (List ℕ)) → newer a None ≡ a
     older (Some x) = refl
     older None = refl
+
     nameless_note : is_of 78 n ≡ false → (if is_event (named_event o t n) k then Some (new_name n) else None) ≡ None
     nameless_note off = ap (λ (has : Bool). if is_event (if has then event_of t (number o n.body 8) else None) k then Some (new_name n) else None) (no_name o n off)
+
     go : last_name o t k (filter is_note ns) ≡ last_name o t k ns → (b : Bool) → is_note n ≡ b → (c : Bool) → is_of 78 n ≡ c → last_name o t k (filter is_note (n ∷ ns)) ≡ last_name o t k (n ∷ ns)
     go rest true is c on =
         let here : filter is_note (n ∷ ns) ≡ n ∷ filter is_note ns = ap (λ x. cond x (n ∷ filter is_note ns) (filter is_note ns)) is in
