@@ -253,7 +253,7 @@ static const uint8_t *print_text(const struct ped_file *file, const uint8_t *byt
     if ((size_t)(end - bytes) < size) {
         fail("a feature is cut");
     }
-    printf("%.*s\n", (int)strnlen((const char *)bytes, size), (const char *)bytes);
+    printf("%.*s\n", (int)size, (const char *)bytes); /* which ends before a zero */
     return bytes + size;
 }
 

@@ -339,9 +339,8 @@ impl<'p> Opened<'p> {
     pub(crate) fn feature(&self, feature: u8) -> Result<Option<&'p [u8]>, u32> {
         let mut place = Part::default();
         // SAFETY: as in `read`.
-        let found = unsafe {
-            ped_file_feature(self.bytes.as_ptr(), self.bytes.len(), feature, &mut place)
-        };
+        let found =
+            unsafe { ped_file_feature(self.bytes.as_ptr(), self.bytes.len(), feature, &mut place) };
         match found {
             0 => {
                 // the library has found it inside the file

@@ -147,8 +147,10 @@ fn first_text(order: Dynamic, bytes: &[u8]) -> Result<(&[u8], &[u8]), BadFeature
 }
 
 fn first_number(order: Dynamic, bytes: &[u8]) -> Result<(usize, &[u8]), BadFeature> {
-    let four = bytes.first_chunk().ok_or(BadFeature::Short)?;
-    Ok((order.convert_u32(*four) as usize, &bytes[4..]))
+    match *bytes {
+        [a, b, c, d, ref left @ ..] => Ok((order.convert_u32([a, b, c, d]) as usize, left)),
+        _ => Err(BadFeature::Short),
+    }
 }
 
 /// An event of a file.

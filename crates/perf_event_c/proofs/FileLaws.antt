@@ -22,7 +22,7 @@ use Rattle.perf_file.specs.declared.id_place.IdPlace.{IdPlace}
 use Rattle.perf_file.specs.declared.ids.IdOfEvent.{IdOfEvent}
 use Rattle.perf_file.specs.declared.section.Section.{Section}
 use Rattle.perf_file.specs.declared.summary.Outline.{Outline}
-use Rattle.perf_file.proofs.InMemory.{HasEvents}
+use Rattle.perf_file.proofs.InMemory.{HasEvents, again}
 use Rattle.perf_file.proofs.PipeInMemory.{HasNoteEvents}
 use Rattle.perf_file.proofs.Sizes.{ids_fit}
 use Rattle.perf_event_c.specs.FileEvents.{flat_event, flat_events, note_events, place_by, first_place, all_at, checked_places, stated, numbers_of, IsRead, ReadsFile}
@@ -107,6 +107,11 @@ note_list {order} {bytes} {o} {ss} events has is =
     let made : note_events order (all_frames order (drop 16 bytes)) ss ≡ Ok (map (flat_event order) (zip has.attributes ss)) = ap (λ r. r >>= λ ats. Ok (map (flat_event order) (zip ats ss))) has.attributes_are in
     let both : ◌≡◌ {A = Result (List FlatEvent) OpenError} (Ok events) (Ok (map (flat_event order) (zip has.attributes ss))) = sym is ∙ made in
     let same : events ≡ map (flat_event order) (zip has.attributes ss) = cc in same
+
+-- the first of two steps is refused, as the second is not
+pub only_first : {A B : Type 0} (r : Result A OpenError) (g : A → B) (e : OpenError) → ◌≡◌ {A = Result B OpenError} (r >>= λ x. Ok (g x)) (Err e) → r ≡ Err e
+only_first (Ok x) g e is = absurd (cc)
+only_first (Err d) g e is = again d e is
 
 -- the table of a file's ids
 pub file_table : {bytes : List ℕ} {h : Head} {parts : List Section} (ids : List IdOfEvent) (has : HasEvents bytes h parts) → ids ≡ table_in (order_of h.order) bytes (drop 3 parts) → ids ≡ table_in (order_of h.order) bytes has.ids

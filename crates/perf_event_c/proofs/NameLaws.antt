@@ -16,7 +16,7 @@ use Rattle.perf_file.specs.IdTables.{is_event, event_of}
 use Rattle.perf_file.specs.Numbers.{number}
 use Rattle.perf_file.specs.Pipes.{FrameNote, pipe_order, all_frames, is_of, is_note, newer, has_name, new_name, named_by, named_event, last_name, noted_feature, noted_name}
 use Rattle.perf_file.specs.declared.ids.IdOfEvent.{IdOfEvent}
-use Rattle.perf_file.proofs.NewNames.{same_names}
+use Rattle.perf_file.proofs.NewNames.{same_names, gets_name, keeps_name, other_event}
 use Rattle.perf_file.proofs.NotePlacing.{noted_alike}
 use Rattle.perf_file.specs.Features.{part_in, or_nothing, descriptions_of, file_descriptions}
 use Rattle.perf_file.specs.Heads.{head_in, checked_features, checked_parts}
@@ -30,7 +30,7 @@ use Rattle.perf_file.specs.declared.descriptions.EventKey.{EventKey}
 use Rattle.perf_file.specs.Sections.{IsInside}
 use Rattle.perf_file.specs.declared.section.Section.{Section}
 use Rattle.perf_event_c.specs.FileEvents.{flat_event, flat_events, stated, numbers_of, EventNumbers, IsRead, HaveIds}
-use Rattle.perf_event_c.specs.FlatNames.{flat_key, flat_name, described_by, nameless, AreNames, over}
+use Rattle.perf_event_c.specs.FlatNames.{flat_key, flat_name, described_by, nameless, AreNames, FindsNames, over}
 use Rattle.perf_event_c.proofs.NextLaws.{States, bind_ok, of_head, config_is, no_event, no_flat, same_count}
 use Rattle.perf_event_c.specs.declared.file_events.FlatEvent.{FlatEvent}
 
@@ -105,7 +105,7 @@ pub always_ok : {P E : Type 0} (r : Result (Unit {0}) E) → P → OnOk r P
 always_ok (Ok done) p = p
 always_ok (Err e) p = tt
 
-ids_inside : (o : Dynamic) (bytes : List ℕ) (ats : List perf_event_attr) (ss : List Section) → All (IsInside bytes) ss → HaveIds bytes (map (flat_event o) (zip ats ss))
+pub ids_inside : (o : Dynamic) (bytes : List ℕ) (ats : List perf_event_attr) (ss : List Section) → All (IsInside bytes) ss → HaveIds bytes (map (flat_event o) (zip ats ss))
 ids_inside o bytes [] ss inside = λ k d lt. absurd (omega (arith, lt))
 ids_inside o bytes (a ∷ ats) [] inside = λ k d lt. absurd (omega (arith, lt))
 ids_inside o bytes (a ∷ ats) (s ∷ ss) inside =
@@ -200,8 +200,10 @@ named_alike o t k (n ∷ ns) = go (named_alike o t k ns) (is_note n) refl (is_of
     older : (a : Option (List ℕ)) → newer a None ≡ a
     older (Some x) = refl
     older None = refl
+
     nameless_note : is_of 78 n ≡ false → (if is_event (named_event o t n) k then Some (new_name n) else None) ≡ None
     nameless_note off = ap (λ (has : Bool). if is_event (if has then event_of t (number o n.body 8) else None) k then Some (new_name n) else None) (no_name o n off)
+
     go : last_name o t k (filter is_note ns) ≡ last_name o t k ns → (b : Bool) → is_note n ≡ b → (c : Bool) → is_of 78 n ≡ c → last_name o t k (filter is_note (n ∷ ns)) ≡ last_name o t k (n ∷ ns)
     go rest true is c on =
         let here : filter is_note (n ∷ ns) ≡ n ∷ filter is_note ns = ap (λ x. cond x (n ∷ filter is_note ns) (filter is_note ns)) is in
@@ -211,6 +213,46 @@ named_alike o t k (n ∷ ns) = go (named_alike o t k ns) (is_note n) refl (is_of
         ap (last_name o t k) here ∙ rest
         ∙ sym (ap (newer (last_name o t k ns)) (nameless_note off) ∙ older (last_name o t k ns))
     go rest false is true on = absurd (is_no_note n (is_of 64 n) (is_of 67 n) refl refl on is)
+
+-- an event that a note names, and the others
+pub renamed : (o : Order) (t : List IdOfEvent) (k e : ℕ) (x : FrameNote) (rest : List FrameNote) (now old : List FlatEvent) (bytes : List ℕ) (d : FlatEvent) → named_event o t x ≡ Some e
+    → (k ≡ e → flat_name bytes (get_or now k d) ≡ described (new_name x)) → (k ≢ e → get_or now k d ≡ get_or old k d)
+    → named_by (last_name o t k rest) (flat_name bytes (get_or now k d)) ≡ named_by (last_name o t k (x ∷ rest)) (flat_name bytes (get_or old k d))
+renamed o t k e x rest now old bytes d named there others = go (nat_eq k e) refl
+  where
+    go : (b : Bool) → nat_eq k e ≡ b → named_by (last_name o t k rest) (flat_name bytes (get_or now k d)) ≡ named_by (last_name o t k (x ∷ rest)) (flat_name bytes (get_or old k d))
+    go true is =
+        let same = eqb-true k e is in
+        ap (λ m. named_by (last_name o t k rest) m) (there same) ∙ gets_name o t k x rest (new_name x) (flat_name bytes (get_or old k d)) (named ∙ ap (λ (i : ℕ). Some i) (sym same)) refl
+    go false is =
+        let other : k ≢ e = λ same. let yes : nat_eq k e ≡ true = eq-eqb k e same in absurd (cc) in
+        ap (λ (y : FlatEvent). named_by (last_name o t k rest) (flat_name bytes y)) (others other) ∙ keeps_name o t k x rest (flat_name bytes (get_or old k d)) (other_event (named_event o t x) e k named other)
+
+noted_first : (bytes : List ℕ) (f : File) (order : Dynamic) (n : ℕ) (e : FileEvent) → pipe_order bytes ≡ Some order → event_name bytes f n e ≡ noted_name order (notes_of bytes) (table_of f.events) n e
+unfolding event_name
+noted_first bytes f order n e is = rw (event_name, is) refl
+
+notes_are : (bytes : List ℕ) (order : Dynamic) → pipe_order bytes ≡ Some order → notes_of bytes ≡ filter is_note (all_frames order (drop 16 bytes))
+unfolding notes_of
+notes_are bytes order is = rw (notes_of, is) refl
+
+name_in_file : (bytes : List ℕ) (f : File) (n : ℕ) (e : FileEvent) → pipe_order bytes ≡ None → event_name bytes f n e ≡ name_of f.order (file_descriptions bytes) e
+unfolding event_name
+name_in_file bytes f n e is = rw (event_name, is) refl
+
+-- the names of a file's events
+pub file_named : (bytes : List ℕ) (f : File) (all now : List FlatEvent) → pipe_order bytes ≡ None → opened_file bytes ≡ Ok f → States f.order bytes all f.events → HaveIds bytes all
+    → ((h : Head) → checked_head bytes ≡ Ok h → FindsNames (order_of h.order) (descriptions_of bytes h) bytes all now) → AreNames bytes f now
+file_named bytes f all now plain whole states have finds n e x lt =
+    let of = head_of_file bytes f whole in
+    let h = of.head in
+    let ds = descriptions_of bytes h in
+    let own : States h.order bytes all f.events = subst (λ d. States d bytes all f.events) of.order states in
+    let names : map (flat_name bytes) now ≡ map (name_of h.order ds) f.events = (finds h of.checked).names ∙ described_alike h.order ds bytes all f.events own have in
+    name_alike (flat_name bytes) (name_of h.order ds) now f.events n e x names lt
+    ∙ ap (λ d. name_of d ds (get_or f.events n x)) (sym of.order)
+    ∙ ap (λ bs. name_of f.order bs (get_or f.events n x)) (sym of.descriptions)
+    ∙ sym (name_in_file bytes f n (get_or f.events n x) plain)
 
 -- the names of a pipe's events
 pub noted_is : (bytes : List ℕ) (f : File) (order : Dynamic) (all now : List FlatEvent) (ids : List IdOfEvent) → pipe_order bytes ≡ Some order → f.order ≡ order → IsRead bytes f all ids → HaveIds bytes all
@@ -224,7 +266,7 @@ noted_is bytes f order all now ids piped is read have named n e x lt =
     let few : n < length all = omega (arith, lt, same_count order bytes all f.events states) in
     let same : or_nothing (noted_feature o 12 frames) ≡ ds = ap or_nothing (sym (noted_alike o 12 frames)) in
     let key : described_by o ds bytes (get_or all n e) ≡ name_of order ds (get_or f.events n x) = name_alike (described_by o ds bytes) (name_of order ds) all f.events n e x (described_alike order ds bytes all f.events states have) lt in
-    let made : event_name bytes f n (get_or f.events n x) ≡ noted_name order (filter is_note frames) (table_of f.events) n (get_or f.events n x) = rw (event_name, notes_of, piped) refl in
+    let made : event_name bytes f n (get_or f.events n x) ≡ noted_name order (filter is_note frames) (table_of f.events) n (get_or f.events n x) = noted_first bytes f order n (get_or f.events n x) piped ∙ ap (λ (ns : List FrameNote). noted_name order ns (table_of f.events) n (get_or f.events n x)) (notes_are bytes order piped) in
     named n e few
     ∙ ap (λ b. named_by (last_name o ids n frames) (described_by o b bytes (get_or all n e))) same
     ∙ ap (λ m. named_by (last_name o ids n frames) m) key

@@ -300,11 +300,11 @@ fn read_pipe(
         (opened_pipe order bytes.now ≡ Err e) × (result ≡ open_code e) × (all.new ≡ all.old)
         × (parts.new ≡ parts.old) × (ids.new ≡ ids.old) }
 {
-    let outline = match outline_of_pipe(alloc, order, bytes) {
-        Ok(outline) => outline,
+    let sketch = match outline_of_pipe(alloc, order, bytes) {
+        Ok(sketch) => sketch,
         Err(refusal) => return open_code(refusal),
     };
-    if !has_room(outline, all.len(), parts.len(), ids.len()) {
+    if !has_room(sketch, all.len(), parts.len(), ids.len()) {
         return OTHER_COUNT;
     }
     match read_note_events(alloc, order, bytes, all, parts, ids) {

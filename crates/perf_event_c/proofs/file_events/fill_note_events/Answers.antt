@@ -1,6 +1,7 @@
 use Rattle.std.proofs.Common.{◌≡◌, ◌≤◌, ◌++◌, List, Ok, map, length, take, drop, zip, ap, sym, ◌∙◌, arith}
 use Rattle.std.specs.List.{filter}
 use Rattle.std.proofs.lemmas.List.{take_all, append-nil}
+use Rattle.perf_base.specs.declared.sys.perf_event_attr.{perf_event_attr}
 use Rattle.perf_file.specs.PipeOutlines.{from_notes}
 use Rattle.perf_file.specs.Pipes.{FrameNote, is_of, noted_attribute}
 use Rattle.perf_file.proofs.PipeCounts.{none_left}
@@ -13,7 +14,7 @@ returns c =
     let item = noted_attribute c.args.order in
     let i = c.loop-note.index in
     let now = c.loop-note.all in
-    let made = λ ats. map (flat_event c.args.order) (zip ats (drop i c.args.sections.now)) in
+    let made : List perf_event_attr → List FlatEvent = λ ats. map (flat_event c.args.order) (zip ats (drop i c.args.sections.now)) in
     let none = ap (λ (ns : List FrameNote). length (filter (is_of 64) ns)) c.in-None.ensures.steps.0 in
     let full : length now ≤ i = omega (arith, c.loop-note.invariant.0, none) in
     sym c.loop-note.invariant.1

@@ -1,30 +1,24 @@
-use Rattle.std.proofs.Common.{◌≡◌, Result, Ok, Err, List, map, ap, subst, sym, ◌∙◌}
-use Rattle.perf_file.specs.Features.{descriptions_of}
-use Rattle.perf_file.specs.Names.{name_of}
-use Rattle.perf_file.specs.Opened.{FileEvent}
-use Rattle.perf_file.specs.declared.error.OpenError.{OpenError}
-use Rattle.perf_file.specs.declared.head.Head.{Head}
-use Rattle.perf_event_c.specs.FlatNames.{described_by}
-use Rattle.perf_event_c.proofs.NameLaws.{head_of_file, described_alike}
-use Rattle.perf_event_c.proofs.NextLaws.{States}
+use Rattle.std.proofs.Common.{ap, sym, ◌∙◌}
+use Rattle.perf_file.specs.Opened.{File}
+use Rattle.perf_file.proofs.PipeInMemory.{form_some, form_none, pipe_is}
+use Rattle.perf_event_c.proofs.NameLaws.{noted_is, file_named}
 use Rattle.perf_event_c.proofs.file_names.ped_file_names.Goals as goal
 
-pub returns-in-Ok-clause-file : goal.returns-in-Ok-clause-file
-returns-in-Ok-clause-file c f ids whole read have room =
+pub returns-in-Some-clause-file : goal.returns-in-Some-clause-file
+returns-in-Some-clause-file c f whole read have room =
     let bytes = c.args.bytes.now in
-    let all = c.args.all.now in
-    let h = c.in-Ok.head in
-    let of = head_of_file bytes f whole in
-    let both : ◌≡◌ {A = Result Head OpenError} (Ok h) (Ok of.head) = c.in-Ok.ensures.value ∙ of.checked in
-    let same : h ≡ of.head = cc in
-    let order : f.order ≡ h.order = of.order ∙ ap (λ (k : Head). k.order) (sym same) in
-    let states : States h.order bytes all f.events = subst (λ d. States d bytes all f.events) order read.all in
-    let descriptions = of.descriptions ∙ ap (λ (k : Head). descriptions_of bytes k) (sym same) in
-    c.find_all.ensures.names ∙ described_alike h bytes all f.events states have
-    ∙ ap (λ d. map (name_of d (descriptions_of bytes h)) f.events) (sym order)
-    ∙ ap (λ ds. map (name_of f.order ds) f.events) (sym descriptions)
+    let order = c.in-Some.order in
+    let piped = sym c.in-Some.ensures.value in
+    let form = form_some bytes order piped in
+    let made = pipe_is order bytes f (sym form.1 ∙ whole) in
+    noted_is bytes f order c.args.all.now c.find_noted.new.all c.args.ids.now piped (ap (λ (x : File). x.order) made.1) read have (c.find_noted.ensures.named read.table.sorted)
 
-pub returns-in-Err-clause-file : goal.returns-in-Err-clause-file
-returns-in-Err-clause-file c f ids whole read have room =
-    let of = head_of_file c.args.bytes.now f whole in
-    let both : ◌≡◌ {A = Result Head OpenError} (Err c.in-Err.refusal) (Ok of.head) = c.in-Err.ensures.value ∙ of.checked in absurd (cc)
+pub returns-in-None-clause-file : goal.returns-in-None-clause-file
+returns-in-None-clause-file c f whole read have room =
+    let bytes = c.args.bytes.now in
+    let plain = sym c.in-None.ensures.value in
+    let form = form_none bytes plain in
+    file_named bytes f c.args.all.now c.find_in_file.new.all plain (sym form.1 ∙ whole) read.all have (λ h is. (c.find_in_file.ensures.named h is).1)
+
+pub returns-in-None-clause-refused : goal.returns-in-None-clause-refused
+returns-in-None-clause-refused c e plain is room = c.find_in_file.ensures.refused e is
