@@ -37,13 +37,14 @@ export function isPipe(bytes) {
         && viewOf(bytes).getBigUint64(8, isLittleFile(bytes)) === BigInt(PIPE_HEAD);
 }
 
-/** The whole frames of a pipe by which perf states something: of each its type, its start and its end. */
+/** The frames of a pipe by which perf states something: of each its type, its start and its end, and whether it is whole. */
 function* notesIn(bytes) {
     const [view, isLittle] = [viewOf(bytes), isLittleFile(bytes)];
     for (let at = PIPE_HEAD; at + HEADER <= bytes.length; at += lengthOf(view, at, isLittle)) {
         const [type, size] = [view.getUint32(at, isLittle), view.getUint16(at + 6, isLittle)];
-        if (NOTES.has(type) && size >= HEADER && at + size <= bytes.length) {
-            yield { type, start: at, end: at + size };
+        if (NOTES.has(type)) {
+            const end = at + Math.max(size, HEADER);
+            yield { type, start: at, end: Math.min(end, bytes.length), isWhole: size >= HEADER && end <= bytes.length };
         }
     }
 }
@@ -63,8 +64,8 @@ export function notesOf(bytes) {
 /** Where the bytes of each feature of a pipe are, their start and their end, by its number: those of the last frame. */
 function featuresOfPipe(bytes, isLittle) {
     const places = new Map();
-    for (const { type, start, end } of notesIn(bytes)) {
-        if (type === HEADER_FEATURE && end - start >= 2 * HEADER) {
+    for (const { type, start, end, isWhole } of notesIn(bytes)) {
+        if (type === HEADER_FEATURE && isWhole && end - start >= 2 * HEADER) {
             places.set(Number(viewOf(bytes).getBigUint64(start + HEADER, isLittle)), [start + 2 * HEADER, end]);
         }
     }
