@@ -109,6 +109,7 @@ shows=crates/perf_data/out/perf_data
 if [ -x $shows ]; then
     face "words of perf_data, and damaged files" "dd" bindings/file_words_test.sh $shows
     face "folding by workers of Dask" "timeout" bindings/fleet_test.sh $shows
+    face "mappings of forks of forks" "python3 awk cmp" bindings/forks_test.sh $shows
 else
     echo "skipped: words of perf_data: no proved perf_data"
 fi
