@@ -190,6 +190,16 @@ export class Machine {
         return new TextDecoder().decode(this.#copy(text, count));
     }
 
+    /** Where a feature is in a file of so many bytes, of which `front` has what is read for this; or the number of why it
+     * is nowhere. */
+    featurePlace(front, length, number) {
+        this.putPiece(front);
+        const refusal = this.calls.ped_file_feature(...[this.piece, length].map(BigInt), number, BigInt(this.result));
+        const view = new DataView(this.memory.buffer, this.result, PART_BYTES);
+        const [at, size] = refusal === 0 ? [0, 8].map((place) => Number(view.getBigUint64(place, true))) : [0, 0];
+        return { refusal, at, size };
+    }
+
     /** What perf calls an event of the kernel's own, by its numbers. */
     nameBy(type, event) {
         const events = new Uint8Array(EVENT_BYTES);
