@@ -5,13 +5,14 @@
 
 A page of this machine's own, under a Content-Security-Policy that allows WebAssembly, prints the names of the tasks in
 examples/recording.stream, which must be those that crates/perf_uses prints, and counts the samples of
-examples/events.data, as examples/events.samples has them. A line says of each browser whether it passed, failed or was
+examples/events.data and pipe.data, as the lines of perf have them. A line says of each browser whether it passed, failed or was
 skipped; the status is 0 if none failed.
 """
 import re
 import sys
 import tempfile
 import threading
+from collections import Counter
 from functools import partial
 from http.server import SimpleHTTPRequestHandler, ThreadingHTTPServer
 from pathlib import Path
@@ -38,14 +39,16 @@ try {
             lines.push(`${frame.time} ${frame.fields.tid} is ${new TextDecoder().decode(frame.fields.comm)}`);
         }
     }
-    const counts = new Map();
-    for (const frame of ped.open(await (await fetch("events.data")).arrayBuffer()).frames("time")) {
-        if (frame.event && frame.name === "sample") {
-            const key = `task ${frame.tid}, event ${frame.event.number}`;
-            counts.set(key, (counts.get(key) ?? 0) + 1);
+    for (const name of ["events.data", "pipe.data"]) {
+        const counts = new Map();
+        for (const frame of ped.open(await (await fetch(name)).arrayBuffer()).frames("time")) {
+            if (frame.event && frame.name === "sample") {
+                const key = `task ${frame.tid}, event ${frame.event.number}`;
+                counts.set(key, (counts.get(key) ?? 0) + 1);
+            }
         }
+        counts.forEach((count, key) => lines.push(`${key}: ${count}`));
     }
-    counts.forEach((count, key) => lines.push(`${key}: ${count}`));
 } catch (error) {
     lines.push(error.message);
 }
@@ -58,7 +61,7 @@ class Files(SimpleHTTPRequestHandler):
     """The module, the recordings and the page."""
 
     def translate_path(self, path):
-        if path in ("/recording.stream", "/events.data"):
+        if path in ("/recording.stream", "/events.data", "/pipe.data"):
             return f"{TOP}/examples{path}"
         return super().translate_path(path)
 
@@ -89,12 +92,19 @@ def text_of_page(kind, port):
             browser.close()
 
 
+def keys_of(lines):
+    """The task and the event of each sample in lines of frames."""
+    found = [re.match(r"\d+ \d+ (\d+) .* Sample .*\btid=(\d+)", line) for line in lines]
+    return [f"task {task}, event {event}" for event, task in (it.groups() for it in found if it)]
+
+
 def main(folder):
     server = ThreadingHTTPServer(("127.0.0.1", 0), partial(Files, directory=folder))
     threading.Thread(target=server.serve_forever, daemon=True).start()
     printed = (TOP / "crates/perf_uses/stdout").read_text().splitlines()
     names = [line for line in printed if re.match("[0-9]+ [0-9]+ is ", line)]
-    counts = (TOP / "examples/events.samples").read_text().splitlines()
+    frames = [(TOP / f"examples/{name}.time").read_text().splitlines() for name in ("events", "pipe")]
+    counts = [f"{key}: {count}" for lines in frames for key, count in Counter(keys_of(lines)).items()]
     status = 0
     for kind in BROWSERS:
         if kind.missing():

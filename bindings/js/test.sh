@@ -45,9 +45,12 @@ found=$(node first.mjs 2>&1)
 cp "$here/../first/names.mjs" . && node names.mjs "$here/../../examples/recording.stream" >"$work/names" 2>&1
 grep '^[0-9]* [0-9]* is ' "$here/../../crates/perf_uses/stdout" | cmp -s - "$work/names" && pass "run names.mjs" ||
     fail "names.mjs: $(head -n 3 "$work/names")"
-cp "$here/../first/samples.mjs" . && node samples.mjs "$here/../../examples/events.data" >"$work/samples" 2>&1
-cmp -s "$here/../../examples/events.samples" "$work/samples" && pass "run samples.mjs" ||
-    fail "samples.mjs: $(head -n 3 "$work/samples")"
+cp "$here/../first/samples.mjs" .
+for name in events pipe; do
+    node samples.mjs "$here/../../examples/$name.data" >"$work/samples" 2>&1
+    awk -f "$here/../../examples/count-samples.awk" "$here/../../examples/$name.time" | cmp -s - "$work/samples" &&
+        pass "run samples.mjs of $name.data" || fail "samples.mjs of $name.data: $(head -n 3 "$work/samples")"
+done
 found=$(find node_modules -name package.json | wc -l)
 [ "$found" = 1 ] && pass "it depends on no other package" || fail "there are $found packages"
 cd "$here" || exit 2
