@@ -1,12 +1,12 @@
 #!/usr/bin/env python3
-"""Reads a recording in Chromium and in Firefox, by the module in a folder that `make -C bindings js` made:
+"""Reads recordings in Chromium and in Firefox, by the modules in a folder that `make -C bindings js` made:
 
     bindings/js/browser_test.py FOLDER
 
 A page of this machine's own, under a Content-Security-Policy that allows WebAssembly, prints the names of the tasks in
 examples/recording.stream, which must be those that crates/perf_uses prints, and counts the samples of
-examples/events.data and pipe.data, as the lines of perf have them. A line says of each browser whether it passed, failed or was
-skipped; the status is 0 if none failed.
+examples/events.data and pipe.data, as the lines of perf have them: by the module whose memory has 32 bits, and by that
+of 64. A line says of each browser whether it passed, failed or was skipped; the status is 0 if none failed.
 """
 import re
 import sys
@@ -27,10 +27,9 @@ PAGE = """<!doctype html>
 <meta charset="utf-8">
 <pre>nothing</pre>
 <script type="module">
-import { load } from "./perf_event_data.mjs";
-
 const lines = [];
 try {
+    const { load } = await import(location.search === "?wide" ? "./wide.mjs" : "./perf_event_data.mjs");
     const ped = await load();
     const bytes = await (await fetch("recording.stream")).arrayBuffer();
     const { config, length } = ped.readAttribute(bytes);
@@ -66,7 +65,7 @@ class Files(SimpleHTTPRequestHandler):
         return super().translate_path(path)
 
     def do_GET(self):
-        if self.path != "/":
+        if self.path not in ("/", "/?wide"):
             super().do_GET()
             return
         self.send_response(200)
@@ -79,12 +78,12 @@ class Files(SimpleHTTPRequestHandler):
         pass
 
 
-def text_of_page(kind, port):
+def text_of_page(kind, port, query):
     """The text of the page in a kind of browser."""
     with tempfile.TemporaryDirectory() as room:
         browser = kind(room)
         try:
-            browser.go(f"http://127.0.0.1:{port}/")
+            browser.go(f"http://127.0.0.1:{port}/{query}")
             return browser.wait("const text = document.querySelector('pre').textContent; return text !== 'nothing' && text")
         except AssertionError as error:
             return str(error)
@@ -110,12 +109,13 @@ def main(folder):
         if kind.missing():
             print(f"skipped: in {kind.NAME}: no {kind.missing()}")
             continue
-        found = text_of_page(kind, server.server_address[1]).splitlines()
-        if names and counts and found == names + counts:
-            print(f"passed: in {kind.NAME}: {len(names)} names, and {len(counts)} counts of samples")
-        else:
-            status = 1
-            print(f"FAILED: in {kind.NAME}", *found, "not", *names, *counts, sep="\n")
+        for bits, query in (32, ""), (64, "?wide"):
+            found = text_of_page(kind, server.server_address[1], query).splitlines()
+            if names and counts and found == names + counts:
+                print(f"passed: in {kind.NAME}, memory of {bits} bits: {len(names)} names, {len(counts)} counts of samples")
+            else:
+                status = 1
+                print(f"FAILED: in {kind.NAME}, memory of {bits} bits", *found, "not", *names, *counts, sep="\n")
     return status
 
 

@@ -33,8 +33,11 @@ const aligned = (at) => Math.ceil(at / 64) * 64;
 /** The module: its memory, and where the places for its arguments begin. */
 export class Machine {
     #tables;
+    #isWide;
 
-    constructor(instance) {
+    /** `isWide` is whether the memory of the module has 64 bits, as its pages are counted by another type then. */
+    constructor(instance, isWide) {
+        this.#isWide = isWide;
         const { memory, __heap_base: base, ...calls } = instance.exports;
         this.calls = calls;
         this.memory = memory;
@@ -55,7 +58,8 @@ export class Machine {
     #needs(bytes) {
         const more = bytes - this.memory.buffer.byteLength;
         if (more > 0) {
-            this.memory.grow(Math.ceil(more / PAGE));
+            const pages = Math.ceil(more / PAGE);
+            this.memory.grow(this.#isWide ? BigInt(pages) : pages);
         }
     }
 

@@ -58,6 +58,16 @@ cd "$here" || exit 2
 python3 "$here/browser_test.py" "$work/elsewhere/node_modules/perf-event-data" || status=1
 node "$here/test.mjs" "$work/elsewhere/node_modules/perf-event-data" "$@" || status=1
 node "$here/test_open.mjs" "$work/elsewhere/node_modules/perf-event-data" || status=1
+# The module with a memory of 64 bits, if this Node has those.
+cat >"$work/elsewhere/wide.mjs" <<'END'
+import { MODULE } from "./node_modules/perf-event-data/wide_module.mjs";
+process.exit(WebAssembly.validate(Buffer.from(MODULE, "base64")) ? 0 : 77);
+END
+if node "$work/elsewhere/wide.mjs"; then
+    WIDE=yes node "$here/test_open.mjs" "$work/elsewhere/node_modules/perf-event-data" || status=1
+else
+    echo "skipped: in Node, the module with a memory of 64 bits: Node $(node --version) has no such memory"
+fi
 rm -rf "$work/out"
 pack && cmp -s "$package" "$work/first.tgz" && pass "the package is the same each time" ||
     fail "the package differs from one time to the next"
