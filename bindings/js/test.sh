@@ -32,7 +32,8 @@ pack || {
     exit 1
 }
 package=$work/out/perf-event-data-$(cat "$here/../VERSION").tgz
-pass "pack: $(stat -c %s "$package") bytes, of which the module has $(stat -c %s "$work/out/js/module.mjs") in base64"
+module=$(sed -n 's/.*"\(.*\)".*/\1/p' "$work/out/js/module.mjs" | base64 -d | wc -c)
+pass "pack: $(stat -c %s "$package") bytes, of a module of $module bytes"
 cp "$package" "$work/first.tgz"
 tar -tzf "$package" | grep -qx package/licences/kit/bitflags/LICENSE-MIT && pass "its licences" || fail "its licences are absent"
 
