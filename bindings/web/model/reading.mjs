@@ -86,7 +86,7 @@ export class Reading {
         frames.task[row] = isRefused ? NO_TASK : this.#taskOf(frame, fields, type, time);
         frames.cpu[row] = cpu ?? NO_CPU;
         frames.extra[row] = isRefused ? this.#refuse(frame, row)
-            : event < 0 ? NOTHING : this.#detail(frame, fields, type, event);
+            : event < 0 ? NOTHING : this.#detail(frame, fields, type, event, time);
         if (cpu !== undefined && (time > -Infinity || type === SAMPLE)) {
             this.cpus.add(cpu);
         }
@@ -139,7 +139,8 @@ export class Reading {
     #taskOf(frame, fields, type, time) {
         if (fields !== undefined && ABOUT_TASKS.has(type)) {
             const pid = Number(fields.pid);
-            return pid === KERNEL_PID ? NO_TASK : this.tasks.numberOf(pid, Number(fields.tid));
+            const isOfKernel = pid === KERNEL_PID && (type === MMAP || type === MMAP2);
+            return isOfKernel ? NO_TASK : this.tasks.numberOf(pid, Number(fields.tid));
         }
         // The sample ids of records that perf made have zeros.
         const { pid } = frame;
@@ -148,7 +149,7 @@ export class Reading {
     }
 
     /** Keeps what follows from a record, and returns its number. */
-    #detail(frame, fields, type, event) {
+    #detail(frame, fields, type, event, time) {
         switch (type) {
             case SAMPLE:
                 return this.#sample(frame, fields, event, time);

@@ -250,7 +250,7 @@ export async function selectSamples() {
     const model = await opened(fileOf(frames, ["first", "second"]));
     const head = "index,time,event,name,pid,tid,cpu,period,place";
     const lines = [`2,1.000000007,first,"'-x",1,2,3,5,"a,""b""+0x10"`, `3,1.000000009,first,:1,1,1,2,1,"a,""b""+0x20"`,
-        "4,2.000000001,second,'-x,4,2,3,1,[unknown]"];
+        `4,2.000000001,second,"'-x",4,2,3,1,[unknown]`];
     for (const [filter, places] of [[{}, [0, 1, 2]], [{ cpu: 3 }, [0, 2]], [{ tid: 2 }, [0, 2]], [{ pid: 1 }, [0, 1]],
         [{ pid: 1, tid: 2 }, [0]],
         [{ event: 1 }, [2]], [{ from: 1000000007, cpu: 3 }, [2]], [{ to: 1000000008 }, [0, 1]], [{ comm: "-x" }, [0, 2]],
