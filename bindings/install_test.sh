@@ -106,13 +106,14 @@ has_names() {
 }
 
 # Compares what the other words, with its path after them, print of a file of `perf record`, and of what it writes to a
-# pipe, with how many samples each task has of each event.
+# pipe, with how many samples each task has of each event: in the order of the first of each, or as that of `order`.
+order=cat
 has_counts() {
     of=$1
     shift
     for name in events pipe; do
-        prints "$(awk -f "$here/../examples/count-samples.awk" "$here/../examples/$name.time")" "$of of $name.data" \
-            "$@" "$here/../examples/$name.data" <"$here/../examples/$name.data"
+        prints "$(awk -f "$here/../examples/count-samples.awk" "$here/../examples/$name.time" | $order)" \
+            "$of of $name.data" "$@" "$here/../examples/$name.data" <"$here/../examples/$name.data"
     done
 }
 
@@ -135,6 +136,8 @@ try_pages() {
         skip "names.py and samples.py: no shared object, or no python3"
     fi
     if command -v cargo >/dev/null; then
+        # by rising numbers of tasks, of which all have as many digits, and events
+        order=sort
         build_rust "$here/first/samples.rs" samples.rs PKG_CONFIG=false &&
             has_counts "run samples.rs" "$work/target/debug/first"
         rm -rf "$work/target"
