@@ -346,8 +346,9 @@ def range_of_programs(page):
         same(page.count(), [len(inside), len(times)], f"selected samples of {example.name}")
         rows = list(csv.DictReader(page.save("#export-csv", ".csv").splitlines()))
         same([row["time"].replace(".", "").lstrip("0") for row in rows], inside, f"times in the CSV of {example.name}")
-        # perf prints nothing of a file whose perf was killed, and of a group a line for each event.
-        if shutil.which("perf") and file.stem not in ("killed", "group"):
+        # perf prints nothing of a file whose perf was killed, of a group a line for each event, and of another machine's
+        # file not all.
+        if shutil.which("perf") and file.stem not in ("killed", "group", "big-endian"):
             same(perf_times(file, from_, to), inside, f"times by perf script --time of {example.name}")
     return None if shutil.which("perf") else "times by perf script: no perf"
 
