@@ -95,7 +95,8 @@ web_face() {
     if [ -z "$(absent $js_tools)" ] && [ ! -f "$work/$wasm/libperf_event_c.a" ]; then
         echo "skipped: the page: no archive for $wasm"
     else
-        face "the page" "$js_tools" bindings/web/test.sh "$work/$wasm/libperf_event_c.a"
+        [ -x $shows ] && program=$shows || program=
+        face "the page" "$js_tools" bindings/web/test.sh "$work/$wasm/libperf_event_c.a" $program
     fi
 }
 

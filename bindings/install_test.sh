@@ -105,9 +105,16 @@ has_names() {
     fi
 }
 
-# Compares what the other words print of a file of `perf record` with how many samples each task has of each event.
+# Compares what the other words, with its path after them, print of a file of `perf record`, and of what it writes to a
+# pipe, with how many samples each task has of each event: in the order of the first of each, or as that of `order`.
+order=cat
 has_counts() {
-    prints "$(cat "$here/../examples/events.samples")" "$@" <"$here/../examples/events.data"
+    of=$1
+    shift
+    for name in events pipe; do
+        prints "$(awk -f "$here/../examples/count-samples.awk" "$here/../examples/$name.time" | $order)" \
+            "$of of $name.data" "$@" "$here/../examples/$name.data" <"$here/../examples/$name.data"
+    done
 }
 
 # Builds a program of the folder `first`: build_page NAME.
@@ -124,13 +131,15 @@ try_pages() {
         has_names "run names.py" env PYTHONPATH="$prefix/share/perf_event_data/python" \
             python3 "$here/first/names.py" "$here/../examples/recording.stream"
         has_counts "run samples.py" env PYTHONPATH="$prefix/share/perf_event_data/python" \
-            python3 "$here/first/samples.py" "$here/../examples/events.data"
+            python3 "$here/first/samples.py"
     else
         skip "names.py and samples.py: no shared object, or no python3"
     fi
     if command -v cargo >/dev/null; then
+        # by rising numbers of tasks, of which all have as many digits, and events
+        order=sort
         build_rust "$here/first/samples.rs" samples.rs PKG_CONFIG=false &&
-            has_counts "run samples.rs" "$work/target/debug/first" "$here/../examples/events.data"
+            has_counts "run samples.rs" "$work/target/debug/first"
         rm -rf "$work/target"
     else
         skip "samples.rs: no cargo"

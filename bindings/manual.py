@@ -3,10 +3,10 @@
 
     bindings/manual.py FOLDER
 
-They are FOLDER/NAME.1 and FOLDER/completions/NAME. All is taken from the program's main.rt, so it is what the program
-does: the page from the head of that file, and what `--help` prints from USAGE; the completion from the first line of
-USAGE. A program with `clap` has no USAGE: its words are those of its `Command` and its `Arg`, and its usage is what the
-head has of it as code. The benchmark is no such program, and those without words have no page.
+They are FOLDER/NAME.1 and FOLDER/completions/NAME. All is taken from the program's sources, so it is what the program
+does: the page from the head of main.rt, and what `--help` prints from USAGE; the completion from the first line of
+USAGE. A program with `clap` has no USAGE: its words are those of each `Command` and `Arg` in its files, and its usage is
+what the head has of it as code. The benchmark is no such program, and those without words have no page.
 """
 import re
 import sys
@@ -42,10 +42,10 @@ complete -o default -F _{name} {name}
 
 
 class Program:
-    """What main.rt states about a program.
+    """What its sources state about a program.
 
-    `usage` are its forms, `places` the words at the first places after its name, `options` by their names the values
-    and the text of each, and `help` what `--help` prints, if that is in main.rt."""
+    `usage` are its forms, `places` the words at the first places after its name, `options` by their names the values of
+    each, what stands for one, and its text, and `help` what `--help` prints, if that is in main.rt."""
 
     def __init__(self, path):
         text = path.read_text()
@@ -54,7 +54,8 @@ class Program:
         self.purpose, *self.paragraphs = [re.sub(r"\s+", " ", part) for part in head.strip().split("\n\n")]
         self.options, self.help = {}, []
         if "use clap::" in text:
-            self.read_clap(text, re.sub(r"\s+", " ", head))
+            others = [it.read_text() for it in sorted(path.parent.rglob("*.rt")) if it != path]
+            self.read_clap("\n".join([text, *others]), re.sub(r"\s+", " ", head))
         else:
             self.read_usage(text)
 
@@ -73,10 +74,12 @@ class Program:
         commands = [name for name in re.findall(r'Command::new\(alloc, "(\w+)"\)', text) if name != self.name]
         self.places = [[*commands, "--help"]]
         for argument in text.split("Arg::new(")[1:]:
-            long, values, about = (re.search(form, argument.partition(";")[0]) for form in (
-                r'\.long\("(.*?)"\)', r"\.value_parser\(\[(.*?)\]", r'\.help\("(.*?)"\)'))
+            long, value, values, about = (re.search(form, argument.partition(";")[0]) for form in (
+                r'\.long\("(.*?)"\)', r'\.value_name\("(.*?)"\)', r"\.value_parser\(\[(.*?)\]", r'\.help\("(.*?)"\)'))
             if long:
-                self.options["--" + long[1]] = re.findall(r'"(.*?)"', values[1] if values else ""), about[1]
+                words = re.findall(r'"(.*?)"', values[1] if values else "")
+                shown = "|".join(words) or (value[1] if value else "")
+                self.options["--" + long[1]] = words, shown, about[1]
 
 
 def roff(text):
@@ -92,7 +95,7 @@ def marked(usage):
 
 def options(program):
     """The section of options, if there are any."""
-    entries = [f".TP\n.B {' '.join([roff(name), '|'.join(values)]).rstrip()}\n{roff(about)}" for name, (values, about)
+    entries = [f".TP\n.B {' '.join([roff(name), roff(value)]).rstrip()}\n{roff(about)}" for name, (_values, value, about)
                in program.options.items()]
     if program.help:
         entries.append(f".TP\n.B {roff('--help')}\nPrints this:\n.PP\n.nf\n" + roff("\n".join(program.help)) + "\n.fi")
@@ -114,7 +117,7 @@ def page(program, names):
 
 def completion(program):
     """The text of a completion: the words after an option, then those at each place, then the options, after a dash."""
-    words = {f"*:{name}": values for name, (values, _about) in program.options.items() if values}
+    words = {f"*:{name}": values for name, (values, *_texts) in program.options.items() if values}
     words.update({f"{place}:*": names for place, names in enumerate(program.places, 1) if names})
     cases = [f'    {pattern}) words="{" ".join(names)}" ;;' for pattern, names in words.items()]
     if program.options:

@@ -218,6 +218,24 @@ check_page() {
     try "it has the usage of $program" sh -c '[ -s "$2" ] && ! grep -vxFf "$1" "$2"' sh "$work/text" "$work/usage"
 }
 
+# The words of perf_data are those that its help has: check_words PAGE PROGRAM
+check_words() {
+    if [ ! -x "$2" ]; then
+        skip "the words of perf_data: it is not built"
+        return
+    fi
+    commands=$("$2" --help | sed -n '/^Commands:/,/^$/s/^  \([a-z]\{1,\}\) .*/\1/p')
+    prints "$(echo $commands) --help" "bash offers the commands of perf_data" offers perf_data ""
+    sed 's/\\-/-/g; s/\\f[BIR]//g' "$1" >"$work/text"
+    for command in $commands; do
+        "$2" "$command" --help | grep -oE -e '--[a-z][a-z-]*' | grep -vx -e --help | sort -u >"$work/options"
+        offers perf_data "$command" -- | tr ' ' '\n' >"$work/offered"
+        try "bash offers the options of perf_data $command, which its manual page has" sh -c '
+            ! grep -vxFf "$1" "$3" && ! { sed "s/^/.B /" "$3" | while read -r word; do grep -qF -e "$word" "$2" || echo "$word"; done | grep .; }' \
+            sh "$work/offered" "$work/text" "$work/options"
+    done
+}
+
 try_programs() {
     prefix=$work/usr
     try "install the programs" make_quietly install-programs PREFIX="$prefix" "$@" || return
@@ -232,6 +250,7 @@ try_programs() {
     prints "attr" "bash offers the attribute to perf_count" offers perf_count native ""
     prints "--help" "bash offers the help to perf_tasks" offers perf_tasks -
     prints "" "bash offers perf_samples no second word" offers perf_samples --help ""
+    check_words "$prefix/share/man/man1/perf_data.1" "$prefix/bin/perf_data"
 }
 
 "try_$part" "$@"

@@ -6,34 +6,18 @@
 #include <stdlib.h>
 #include <perf_event_data.h>
 
-struct count { uint64_t event; unsigned tid, samples; };
+static uint8_t bytes[1 << 26];
+static struct count { unsigned tid, event, samples; } counts[(1 << 26) / 8];
 
-/* Counts a sample in a list that ends with a count of 0. */
-static void count_sample(struct count *counts, unsigned tid, uint64_t event)
+int main(void)
 {
-    while (counts->samples > 0 && (counts->tid != tid || counts->event != event)) {
-        counts++;
-    }
-    *counts = (struct count){event, tid, counts->samples + 1};
-}
-
-static void print_counts(const struct count *counts)
-{
-    for (; counts->samples > 0; counts++) {
-        printf("task %u, event %llu: %u\n", counts->tid, (unsigned long long)counts->event, counts->samples);
-    }
-}
-
-/* Returns why the file is refused, if it is. */
-uint32_t count_samples(const uint8_t *bytes, size_t len)
-{
+    size_t len = fread(bytes, 1, sizeof bytes, stdin), i;
     struct ped_file file = {0};
     uint32_t refusal = ped_file_open(bytes, len, &file);
     struct ped_event *events = calloc(file.events + 1, sizeof *events);
     struct ped_part *parts = calloc(PED_FILE_PARTS(file.events), sizeof *parts);
     struct ped_id *ids = calloc(file.ids + 1, sizeof *ids);
     struct ped_entry *entries = calloc(len / 8 + 1, sizeof *entries), *entry = entries, *end = entries;
-    struct count *counts = calloc(len / 8 + 1, sizeof *counts);
     uint64_t at = 0;
     if (refusal == PED_FILE_READ) {
         refusal = ped_file_events(bytes, len, events, file.events, parts, PED_FILE_PARTS(file.events), ids, file.ids);
@@ -46,19 +30,17 @@ uint32_t count_samples(const uint8_t *bytes, size_t len)
     for (struct ped_frame frame; entry < end; entry++) {
         ped_file_read(&file, bytes, len, events, file.events, entry, 1, &frame, 1);
         if (frame.refusal == PED_ACCEPTED && frame.read == PERF_RECORD_SAMPLE) {
-            count_sample(counts, frame.tid, entry->number);
+            for (i = 0; counts[i].samples > 0 && (counts[i].tid != frame.tid || counts[i].event != entry->number);) {
+                i++;
+            }
+            counts[i] = (struct count){frame.tid, (unsigned)entry->number, counts[i].samples + 1};
         }
     }
-    print_counts(counts);
-    return refusal;
-}
-
-static uint8_t bytes[1 << 26];
-
-int main(void)
-{
-    uint32_t refusal = count_samples(bytes, fread(bytes, 1, sizeof bytes, stdin));
-    fputs(ped_file_message(refusal), stderr);
-    fputs(refusal == PED_FILE_READ ? "" : "\n", stderr);
+    for (i = 0; counts[i].samples > 0; i++) {
+        printf("task %u, event %u: %u\n", counts[i].tid, counts[i].event, counts[i].samples);
+    }
+    if (refusal != PED_FILE_READ) {
+        fprintf(stderr, "%s\n", ped_file_message(refusal));
+    }
     return refusal != PED_FILE_READ;
 }

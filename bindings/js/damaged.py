@@ -4,7 +4,7 @@ it:
 
     PERF_EVENT_DATA_SO=libperf_event_data.so bindings/js/damaged.py
 
-A line of each copy is why it is refused, or how many events and frames there are, and a sum of the frames.
+A line of each copy is why it is refused, or how many events and frames there are, and a sum of the frames and features.
 """
 import hashlib
 import sys
@@ -23,6 +23,14 @@ def frame_text(frame):
     return " ".join("" if it is None else str(it) for it in words) + "\n"
 
 
+def feature_text(recording, number):
+    try:
+        found = recording.feature(number)
+        return f"{number} {'' if found is None else found.hex()}\n"
+    except ped.RefusedFile as refusal:
+        return f"{number} {refusal.kind}\n"
+
+
 def text_of(data):
     try:
         recording = ped.Recording(data)
@@ -30,6 +38,7 @@ def text_of(data):
         return f"{refusal.kind}: {refusal}"
     orders = [recording.frames(order) for order in ("file", "time")]
     text = "".join(frame_text(frame) for frames in orders for frame in frames)
+    text += "".join(feature_text(recording, number) for number in range(40))
     return (f"{len(recording.events)} events, {len(orders[0])} frames, {recording.end}: "
             + hashlib.md5(text.encode()).hexdigest())
 

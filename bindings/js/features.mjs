@@ -1,17 +1,16 @@
-// The features of a file of `perf record`: what perf states beside the frames. Their table follows the frames; in what
-// perf writes to a pipe they are frames themselves, as are the attributes of events and their names.
+// What is given to the library so that it finds the features of a file of `perf record`, which is what perf states beside
+// the frames: their table follows the frames; in what perf writes to a pipe they are frames themselves, as are the
+// attributes of events and their names.
 
 import { isFile, isLittleFile, viewOf } from "./config.mjs";
 
-// Where the head has the place and the size of the frames, and the bits of the features, of which there may be so many.
-const [FRAMES, FEATURE_BITS, MOST] = [40, 72, 256];
+// The bytes of the head of a file, where it has the place of the frames, and how many features there may be.
+const [HEAD_BYTES, FRAMES, MOST] = [104, 40, 256];
 const PLACE_BYTES = 16;
-
 // The types of frames by which perf states something in a pipe, an attribute, a build id, what is new of an event, a
 // feature, and of those that are compressed.
 const HEADER_ATTR = 64;
-const HEADER_FEATURE = 80;
-const NOTES = new Set([HEADER_ATTR, 67, 78, HEADER_FEATURE, 81, 83]);
+const NOTES = new Set([HEADER_ATTR, 67, 78, 80, 81, 83]);
 // The bytes of a pipe's head, whose second number is their count, and of a frame's header.
 const [PIPE_HEAD, HEADER] = [16, 8];
 // Where an attribute has its period.
@@ -37,79 +36,51 @@ export function isPipe(bytes) {
         && viewOf(bytes).getBigUint64(8, isLittleFile(bytes)) === BigInt(PIPE_HEAD);
 }
 
-/** The frames of a pipe by which perf states something: of each its type, its start and its end, and whether it is whole. */
+/** Where the frames of a pipe are by which perf states something: of each its type, its start and its end. */
 function* notesIn(bytes) {
     const [view, isLittle] = [viewOf(bytes), isLittleFile(bytes)];
     for (let at = PIPE_HEAD; at + HEADER <= bytes.length; at += lengthOf(view, at, isLittle)) {
         const [type, size] = [view.getUint32(at, isLittle), view.getUint16(at + 6, isLittle)];
         if (NOTES.has(type)) {
-            const end = at + Math.max(size, HEADER);
-            yield { type, start: at, end: Math.min(end, bytes.length), isWhole: size >= HEADER && end <= bytes.length };
+            yield { type, start: at, end: Math.min(at + Math.max(size, HEADER), bytes.length) };
         }
     }
 }
 
-/** The front of a pipe: its head and the frames by which perf states something, one after another. */
+/** A pipe of nothing but the frames by which perf states something, and of each where it is there and in the pipe. */
 export function notesOf(bytes) {
     const notes = Array.from(notesIn(bytes));
-    const made = new Uint8Array(notes.reduce((sum, { start, end }) => sum + end - start, PIPE_HEAD));
-    made.set(bytes.subarray(0, PIPE_HEAD));
+    const front = new Uint8Array(notes.reduce((sum, { start, end }) => sum + end - start, PIPE_HEAD));
+    front.set(bytes.subarray(0, PIPE_HEAD));
+    const places = [[0, 0]];
     notes.reduce((at, { start, end }) => {
-        made.set(bytes.subarray(start, end), at);
+        front.set(bytes.subarray(start, end), at);
+        places.push([at, start]);
         return at + end - start;
     }, PIPE_HEAD);
-    return made;
+    return { front, notes: places };
 }
 
-/** Where the bytes of each feature of a pipe are, their start and their end, by its number: those of the last frame. */
-function featuresOfPipe(bytes, isLittle) {
-    const places = new Map();
-    for (const { type, start, end, isWhole } of notesIn(bytes)) {
-        if (type === HEADER_FEATURE && isWhole && end - start >= 2 * HEADER) {
-            places.set(Number(viewOf(bytes).getBigUint64(start + HEADER, isLittle)), [start + 2 * HEADER, end]);
-        }
-    }
-    return places;
+/** The period of each event of a pipe whose samples have none, by the attribute's own; `front` has all its notes. */
+export function periodsOfPipe(front, isLittle) {
+    const found = Array.from(notesIn(front)).filter(({ type }) => type === HEADER_ATTR);
+    return found.map(({ start }) => viewOf(front).getBigUint64(start + HEADER + ATTRIBUTE_PERIOD, isLittle));
 }
 
-/** The period of each event of a pipe whose samples have none, by the attribute's own. */
-export function periodsOfPipe(bytes, isLittle) {
-    const found = Array.from(notesIn(bytes)).filter(({ type }) => type === HEADER_ATTR);
-    return found.map(({ start }) => viewOf(bytes).getBigUint64(start + HEADER + ATTRIBUTE_PERIOD, isLittle));
-}
-
-/** Where the bytes of each feature are, their start and their end, by its number. A feature whose bytes or whose place
- * are not in the file is left out; so are all of a file that perf did not close. */
-export function featuresIn(bytes, isLittle) {
-    const places = isPipe(bytes) ? featuresOfPipe(bytes, isLittle) : featuresOfFile(bytes, isLittle);
-    return new Map(Array.from(places).filter(([, [, end]]) => end <= bytes.length));
-}
-
-/** The same, also of those that are not in the file. */
-function featuresOfFile(bytes, isLittle) {
+/** A file with the head of another one and its table of features, but frames of eight bytes, so that the library finds
+ * the places of the features by it. What the other one lacks of the table has no place in any file. */
+export function tableOf(bytes, isLittle) {
     const view = viewOf(bytes);
-    const u64 = (at) => Number(view.getBigUint64(at, isLittle));
-    const places = new Map();
-    if (u64(FRAMES + 8) === 0) {
-        return places;
-    }
-    let at = u64(FRAMES) + u64(FRAMES + 8);
-    for (let bit = 0; bit < MOST; bit++) {
-        const word = view.getBigUint64(FEATURE_BITS + 8 * (bit >> 6), isLittle);
-        if (word >> BigInt(bit & 63) & 1n) {
-            const isThere = at + PLACE_BYTES <= bytes.length;
-            const [start, size] = isThere ? [u64(at), u64(at + 8)] : [0, Infinity];
-            places.set(bit, [start, start + size]);
-            at += PLACE_BYTES;
-        }
-    }
-    return places;
-}
-
-/** The bytes of a feature of a file, undefined if the file does not have it, and null if it ends beyond the file. */
-export function featureOf(bytes, isLittle, number) {
-    const place = (isPipe(bytes) ? featuresOfPipe : featuresOfFile)(bytes, isLittle).get(number);
-    return place === undefined ? undefined : place[1] > bytes.length ? null : bytes.subarray(...place);
+    const number = (at) => Number(view.getBigUint64(at, isLittle));
+    const end = number(FRAMES) + number(FRAMES + 8);
+    const start = HEAD_BYTES + HEADER;
+    const made = new Uint8Array(start + PLACE_BYTES * MOST).fill(255);
+    const table = bytes.subarray(end, end + PLACE_BYTES * MOST);
+    made.set(bytes.subarray(0, HEAD_BYTES));
+    made.set(table.subarray(0, table.length - table.length % PLACE_BYTES), start);
+    viewOf(made).setBigUint64(FRAMES, BigInt(HEAD_BYTES), isLittle);
+    viewOf(made).setBigUint64(FRAMES + 8, number(FRAMES + 8) === 0 ? 0n : BigInt(HEADER), isLittle);
+    return made;
 }
 
 /** The texts at the front of bytes, so many, each after its length and before a zero; null if they are cut. */

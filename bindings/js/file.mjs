@@ -4,7 +4,7 @@
 import { numbersOf } from "./batch.mjs";
 import { BIG, bytesOf, viewOf } from "./config.mjs";
 import { ENTRY_WORDS, EVENT, NUMBER, OWNER, putOffset } from "./entries.mjs";
-import { featureOf, featuresIn, isPipe, lengthOf, notesOf, textsIn } from "./features.mjs";
+import { isPipe, lengthOf, notesOf, tableOf, textsIn } from "./features.mjs";
 import { FILE_REFUSALS } from "./fields.mjs";
 import { FileFrames } from "./file_frames.mjs";
 import { PieceReader } from "./file_readers.mjs";
@@ -23,9 +23,12 @@ const DESCRIPTIONS = 12;
 // The numbers of features that are texts, and of the words of the command.
 const [HOSTNAME, OSRELEASE, CMDLINE] = [3, 4, 11];
 
-// The number of the refusal of a feature that ends beyond the file, and what is said of one that is damaged.
-const CUT_FEATURE = 21;
+// The number that the library returns for a feature that the file does not have, and what is said of one that is damaged.
+const NO_FEATURE = 20;
 const SHORT_FEATURE = "the feature is damaged: copy the file again, or record again";
+
+/** What the page reads of a recording besides: the name of a member. */
+export const FRONT = Symbol("front");
 
 /** Why a file or a feature is refused, and what to do. */
 export class RefusedFile extends RangeError {
@@ -62,13 +65,10 @@ function frontOf(bytes) {
 
 /** A file with the front of another one, whose frames are eight bytes, and whose only feature is the descriptions of
  * events: all that the library reads to find their names. Without descriptions it has no bytes. */
-function namedFront({ bytes, isLittle }) {
-    const found = featuresIn(bytes, isLittle).get(DESCRIPTIONS);
-    if (found === undefined) {
+function namedFront(front, described, isLittle) {
+    if (described === undefined) {
         return new Uint8Array();
     }
-    const described = bytes.subarray(...found);
-    const front = frontOf(bytes);
     const table = front.length + 8;
     const made = new Uint8Array(table + PLACE_BYTES + described.length);
     made.set(front);
@@ -83,12 +83,16 @@ function namedFront({ bytes, isLittle }) {
 /** The bytes of a file, what the library states of it, and when they are needed its entries in order of time. */
 class Source {
     #machine;
+    #notes;
+    #table;
     #ended;
     #byTime;
     #names;
 
-    constructor(machine, bytes, front, file) {
+    /** `notes` are where the notes of a pipe are, in its front and in its bytes. */
+    constructor(machine, bytes, { front, notes }, file) {
         this.#machine = machine;
+        this.#notes = notes;
         this.bytes = bytes;
         this.front = front;
         this.view = viewOf(bytes);
@@ -100,8 +104,27 @@ class Source {
 
     /** The names of its events. */
     get names() {
-        this.#names ??= this.#machine.namesIn(isPipe(this.bytes) ? this.front : namedFront(this), this.file.tables);
+        this.#names ??= this.#machine.namesIn(this.#notes !== undefined ? this.front
+            : namedFront(this.front, this.feature(DESCRIPTIONS).bytes, this.isLittle), this.file.tables);
         return this.#names;
+    }
+
+    /** The bytes of a feature, or the number of why there are none. */
+    feature(number) {
+        const { refusal, at, size } = this.#notes === undefined ? this.#placeInFile(number)
+            : this.#placeInPipe(number);
+        return refusal === 0 ? { refusal, bytes: this.bytes.subarray(at, at + size) } : { refusal };
+    }
+
+    #placeInFile(number) {
+        this.#table ??= tableOf(this.bytes, this.isLittle);
+        return this.#machine.featurePlace(this.#table, this.bytes.length, number);
+    }
+
+    #placeInPipe(number) {
+        const { refusal, at, size } = this.#machine.featurePlace(this.front, this.front.length, number);
+        const [to, from] = this.#notes.findLast(([place]) => place <= at);
+        return { refusal, at: from + at - to, size };
     }
 
     typeAt(at) { return this.view.getUint32(at, this.isLittle); }
@@ -187,13 +210,13 @@ export class Recording {
     constructor(machine, data) {
         const bytes = bytesOf(data);
         const isPiped = isPipe(bytes);
-        const front = isPiped ? notesOf(bytes) : frontOf(bytes);
-        const file = machine.openFile(front, isPiped ? front.length : bytes.length);
+        const parts = isPiped ? notesOf(bytes) : { front: frontOf(bytes) };
+        const file = machine.openFile(parts.front, isPiped ? parts.front.length : bytes.length);
         if (file.refusal !== 0) {
             throw new RefusedFile(...FILE_REFUSALS[file.refusal]);
         }
         file.end = isPiped ? bytes.length : file.end;
-        this.#source = new Source(machine, bytes, front, file);
+        this.#source = new Source(machine, bytes, parts, file);
         this.bytes = bytes;
         this.order = file.order;
         this.isClosed = file.isClosed;
@@ -203,13 +226,19 @@ export class Recording {
     /** How reading the frames ended. */
     get end() { return ENDS[this.#source.ended.how]; }
 
+    /** What opening read of the bytes: of a pipe, all that perf states. */
+    get [FRONT]() { return this.#source.front; }
+
     /** The bytes of a feature, by the number that perf gives it, or undefined. */
     feature(number) {
-        const found = featureOf(this.bytes, this.#source.isLittle, number);
-        if (found === null) {
-            throw new RefusedFile(...FILE_REFUSALS[CUT_FEATURE]);
+        if (!(Number.isInteger(number) && number >= 0 && number < 256)) {
+            throw new RangeError("the number of a feature is below 256");
         }
-        return found;
+        const { refusal, bytes } = this.#source.feature(number);
+        if (refusal !== 0 && refusal !== NO_FEATURE) {
+            throw new RefusedFile(...FILE_REFUSALS[refusal]);
+        }
+        return bytes;
     }
 
     /** The machine on which was recorded, the release of its kernel, and the words of the command. */

@@ -33,8 +33,11 @@ const aligned = (at) => Math.ceil(at / 64) * 64;
 /** The module: its memory, and where the places for its arguments begin. */
 export class Machine {
     #tables;
+    #isWide;
 
-    constructor(instance) {
+    /** `isWide` is whether the memory of the module has 64 bits, as its pages are counted by another type then. */
+    constructor(instance, isWide) {
+        this.#isWide = isWide;
         const { memory, __heap_base: base, ...calls } = instance.exports;
         this.calls = calls;
         this.memory = memory;
@@ -55,7 +58,8 @@ export class Machine {
     #needs(bytes) {
         const more = bytes - this.memory.buffer.byteLength;
         if (more > 0) {
-            this.memory.grow(Math.ceil(more / PAGE));
+            const pages = Math.ceil(more / PAGE);
+            this.memory.grow(this.#isWide ? BigInt(pages) : pages);
         }
     }
 
@@ -188,6 +192,16 @@ export class Machine {
         this.#needs(text + room);
         const count = Number(this.calls.ped_event_name(BigInt(place), ...file, BigInt(text), BigInt(room)));
         return new TextDecoder().decode(this.#copy(text, count));
+    }
+
+    /** Where a feature is in a file of so many bytes, of which `front` has what is read for this; or the number of why it
+     * is nowhere. */
+    featurePlace(front, length, number) {
+        this.putPiece(front);
+        const refusal = this.calls.ped_file_feature(...[this.piece, length].map(BigInt), number, BigInt(this.result));
+        const view = new DataView(this.memory.buffer, this.result, PART_BYTES);
+        const [at, size] = refusal === 0 ? [0, 8].map((place) => Number(view.getBigUint64(place, true))) : [0, 0];
+        return { refusal, at, size };
     }
 
     /** What perf calls an event of the kernel's own, by its numbers. */

@@ -1,9 +1,9 @@
 #!/bin/sh
-# Makes the WebAssembly module of an archive for wasm64-unknown-unknown: module.sh ARCHIVE KIT FILE. Its memory is then
-# lowered to 32 bits by wasm-opt, so that it needs no more than browsers and Node 18 have, and FILE is the text of
-# module.mjs.
+# Makes the WebAssembly modules of an archive for wasm64-unknown-unknown: module.sh ARCHIVE KIT FOLDER. The memory of one is
+# lowered to 32 bits by wasm-opt, so that it needs no more than browsers and Node 18 have, and is in the text of
+# FOLDER/module.mjs; that of the other, in wide_module.mjs, has 64.
 set -eu
-archive=$1 kit=$2 file=$3
+archive=$1 kit=$2 folder=$3
 work=$(mktemp -d)
 trap 'rm -rf "$work"' EXIT
 # the calls need less than 16 kB of stack, which bindings/c/guard.c tries
@@ -14,8 +14,10 @@ trap 'rm -rf "$work"' EXIT
 }
 node "$(dirname "$0")/without_table.mjs" "$work/wide.wasm" >"$work/plain.wasm"
 wasm-opt --enable-memory64 --enable-bulk-memory --memory64-lowering -o "$work/module.wasm" "$work/plain.wasm"
-mkdir -p "$(dirname "$file")"
-{
+mkdir -p "$folder"
+write() {
     echo '// Made of the proved library by module.sh: a WebAssembly module, in base64.'
-    echo "export const MODULE = \"$(base64 -w 0 "$work/module.wasm")\";"
-} >"$file"
+    echo "export const MODULE = \"$(base64 -w 0 "$1")\";"
+}
+write "$work/module.wasm" >"$folder/module.mjs"
+write "$work/plain.wasm" >"$folder/wide_module.mjs"

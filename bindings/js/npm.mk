@@ -5,7 +5,7 @@ WASM = wasm64-unknown-unknown
 WASM_ARCHIVE = $(TOP)/crates/perf_event_c/out/$(WASM)/libperf_event_c.a
 JS = $(HERE)/js
 JS_MODULES = perf_event_data.mjs batch.mjs columns.mjs config.mjs entries.mjs features.mjs fields.mjs file.mjs \
-    file_frames.mjs file_readers.mjs frames.mjs growing.mjs machine.mjs readers.mjs stream.mjs
+    file_frames.mjs file_readers.mjs frames.mjs growing.mjs library.mjs machine.mjs readers.mjs stream.mjs wide.mjs
 JS_FILES = $(addprefix $(JS)/,$(JS_MODULES) perf_event_data.d.mts package.json README.md)
 
 $(WASM_ARCHIVE):
@@ -14,7 +14,7 @@ $(WASM_ARCHIVE):
 
 js: $(WASM_ARCHIVE)
 	rm -rf $(OUT)/js
-	$(JS)/module.sh $(WASM_ARCHIVE) "$(KIT)" $(OUT)/js/module.mjs
+	$(JS)/module.sh $(WASM_ARCHIVE) "$(KIT)" $(OUT)/js
 	$(INSTALL) -m 644 $(JS_FILES) $(TOP)/CHANGELOG.md $(OUT)/js/
 
 npm: js licences

@@ -32,7 +32,8 @@ pack || {
     exit 1
 }
 package=$work/out/perf-event-data-$(cat "$here/../VERSION").tgz
-pass "pack: $(stat -c %s "$package") bytes, of which the module has $(stat -c %s "$work/out/js/module.mjs") in base64"
+module=$(sed -n 's/.*"\(.*\)".*/\1/p' "$work/out/js/module.mjs" | base64 -d | wc -c)
+pass "pack: $(stat -c %s "$package") bytes, of a module of $module bytes"
 cp "$package" "$work/first.tgz"
 tar -tzf "$package" | grep -qx package/licences/kit/bitflags/LICENSE-MIT && pass "its licences" || fail "its licences are absent"
 
@@ -45,9 +46,12 @@ found=$(node first.mjs 2>&1)
 cp "$here/../first/names.mjs" . && node names.mjs "$here/../../examples/recording.stream" >"$work/names" 2>&1
 grep '^[0-9]* [0-9]* is ' "$here/../../crates/perf_uses/stdout" | cmp -s - "$work/names" && pass "run names.mjs" ||
     fail "names.mjs: $(head -n 3 "$work/names")"
-cp "$here/../first/samples.mjs" . && node samples.mjs "$here/../../examples/events.data" >"$work/samples" 2>&1
-cmp -s "$here/../../examples/events.samples" "$work/samples" && pass "run samples.mjs" ||
-    fail "samples.mjs: $(head -n 3 "$work/samples")"
+cp "$here/../first/samples.mjs" .
+for name in events pipe; do
+    node samples.mjs "$here/../../examples/$name.data" >"$work/samples" 2>&1
+    awk -f "$here/../../examples/count-samples.awk" "$here/../../examples/$name.time" | cmp -s - "$work/samples" &&
+        pass "run samples.mjs of $name.data" || fail "samples.mjs of $name.data: $(head -n 3 "$work/samples")"
+done
 found=$(find node_modules -name package.json | wc -l)
 [ "$found" = 1 ] && pass "it depends on no other package" || fail "there are $found packages"
 cd "$here" || exit 2
@@ -55,6 +59,16 @@ cd "$here" || exit 2
 python3 "$here/browser_test.py" "$work/elsewhere/node_modules/perf-event-data" || status=1
 node "$here/test.mjs" "$work/elsewhere/node_modules/perf-event-data" "$@" || status=1
 node "$here/test_open.mjs" "$work/elsewhere/node_modules/perf-event-data" || status=1
+# The module with a memory of 64 bits, if this Node has those.
+cat >"$work/elsewhere/wide.mjs" <<'END'
+import { MODULE } from "./node_modules/perf-event-data/wide_module.mjs";
+process.exit(WebAssembly.validate(Buffer.from(MODULE, "base64")) ? 0 : 77);
+END
+if node "$work/elsewhere/wide.mjs"; then
+    WIDE=yes node "$here/test_open.mjs" "$work/elsewhere/node_modules/perf-event-data" || status=1
+else
+    echo "skipped: in Node, the module with a memory of 64 bits: Node $(node --version) has no such memory"
+fi
 rm -rf "$work/out"
 pack && cmp -s "$package" "$work/first.tgz" && pass "the package is the same each time" ||
     fail "the package differs from one time to the next"

@@ -69,20 +69,28 @@ function compareLines() {
     }
 }
 
-/** What perf wrote to a pipe has the lines of perf, and states the same as a file of the same command. */
-function comparePipe() {
+/** The other examples have the lines of perf; what a big-endian machine writes is a copy of another one. */
+function compareOthers() {
+    for (const name of ["pipe", "machine", "group", "killed", "big-endian"]) {
+        const recording = ped.open(bytesIn(`examples/${name}.data`));
+        const text = (suffix) => linesIn(textIn(`examples/${name === "big-endian" ? "events" : name}.${suffix}`));
+        compare(`frames of examples/${name}.data`, text("dump"), linesOf(recording.frames("file")));
+        compare(`frames of examples/${name}.data by time`, text("time"), linesOf(recording.frames("time")));
+        compare(`events of examples/${name}.data`, text("events"), recording.events.map(eventLine));
+    }
+}
+
+/** What perf wrote to a pipe states the same as a file of the same command, and a damaged feature is refused alone. */
+function compareFeatures() {
     const pipe = bytesIn("examples/pipe.data");
-    const recording = ped.open(pipe);
-    const [dump, time, events] = ["dump", "time", "events"].map((it) => linesIn(textIn(`examples/pipe.${it}`)));
-    compare("text of examples/pipe.dump", dump, linesOf(recording.frames("file")));
-    compare("text of examples/pipe.time", time, linesOf(recording.frames("time")));
-    compare("text of examples/pipe.events", events, recording.events.map(eventLine));
     for (const [name, bytes, output] of [["events", data, "events.data"], ["pipe", pipe, "-"]]) {
         const { hostname, osRelease, commandLine } = ped.open(bytes);
         const words = ["/usr/bin/perf", "record", "-q", "-B", "-o", output, "-e"];
         compare(`the machine and the command of examples/${name}.data`, ["vm", "6.18.44-fc-v595", 17, ...words],
             [hostname, osRelease, commandLine.length, ...commandLine.slice(0, 7)]);
     }
+    refuses("the number of a feature has eight bits", () => ped.open(data).feature(256),
+        "the number of a feature is below 256");
     const killed = ped.open(bytesIn("examples/killed.data"));
     check("a file of a perf that was killed has no features", killed.hostname === undefined
         && killed.commandLine === undefined);
@@ -338,7 +346,24 @@ function frameText(frame) {
     return [at, event?.number, unknownId, type, misc, size, message, time, tid, Object.keys(fields).sort()].join(" ");
 }
 
-/** Why a file is refused, or how many events and frames there are, and a sum of the frames in both orders. */
+// More numbers than perf has for features.
+const FEATURE_NUMBERS = Array.from({ length: 40 }, (_, number) => number);
+
+/** The bytes of a feature in hexadecimal, or the kind of its refusal. */
+function featureText(recording, number) {
+    try {
+        const found = recording.feature(number);
+        if (found && found.buffer !== recording.bytes.buffer) {
+            throw new Error(`feature ${number} is no view of the input`);
+        }
+        return `${number} ${found ? Buffer.from(found).toString("hex") : ""}`;
+    } catch (error) {
+        return `${number} ${error instanceof RefusedFile ? error.kind : error.stack}`;
+    }
+}
+
+/** Why a file is refused, or how many events and frames there are, and a sum of the frames in both orders and of the
+ * features. */
 function textOf(bytes) {
     const refusal = refusalOf(bytes);
     if (refusal !== undefined) {
@@ -346,6 +371,7 @@ function textOf(bytes) {
     }
     const recording = ped.open(bytes);
     const texts = ["file", "time"].flatMap((order) => Array.from(recording.frames(order), frameText));
+    texts.push(...FEATURE_NUMBERS.map((number) => featureText(recording, number)));
     const sum = createHash("md5").update(texts.map((text) => `${text}\n`).join("")).digest("hex");
     return `${recording.events.length} events, ${recording.frames("file").count} frames, ${recording.end}: ${sum}`;
 }
@@ -497,6 +523,6 @@ function measure() {
 }
 
 await run([
-    compareLines, comparePipe, tryColumns, tryCalls, tryBigOrder, tryPayloads, tryRefusals, tryDamagedFrames, tryDamagedCopies,
-    tryPieces, tryNested, tryLong, tryMemory, measure,
+    compareLines, compareOthers, compareFeatures, tryColumns, tryCalls, tryBigOrder, tryPayloads, tryRefusals,
+    tryDamagedFrames, tryDamagedCopies, tryPieces, tryNested, tryLong, tryMemory, measure,
 ]);

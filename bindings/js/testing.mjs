@@ -14,7 +14,9 @@ if (folder === undefined) {
     console.error("the first argument is a folder that `make -C bindings js` made");
     process.exit(2);
 }
-export const module = await import(pathToFileURL(resolve(folder, "perf_event_data.mjs")));
+// With WIDE in the environment, that whose memory has 64 bits.
+const name = process.env.WIDE ? "wide.mjs" : "perf_event_data.mjs";
+export const module = await import(pathToFileURL(resolve(folder, name)));
 export const fieldTable = await import(pathToFileURL(resolve(folder, "fields.mjs")));
 const { KINDS } = module;
 export const ped = await module.load();

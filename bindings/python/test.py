@@ -579,7 +579,7 @@ def try_hostile_files():
     lengths = [*range(0, 700), *range(700, len(pipe), 97)]
     found = [read_all(pipe[:length]) for length in lengths]
     check(f"{len(lengths)} pipes that are cut: {found.count(None)} are read", None not in found[:100] and len(set(found)) > 2)
-    found = [read_all(pipe[:index] + bytes([byte]) + pipe[index + 1:]) for byte in (0, 255) for index in range(0, 2048, 3)]
+    found = [read_all(pipe[:index] + bytes([byte]) + pipe[index + 1:]) for byte in (0, 255) for index in range(2048)]
     check(f"{len(found)} pipes with one byte changed: {found.count(None)} are read, {len(set(found)) - 1} refusals",
           len(set(found)) > 4 and None in found)
 

@@ -1,16 +1,18 @@
 #!/bin/sh
 # Makes the page of an archive, in a folder of its own, and tests it in Node, in Chromium and in Firefox, without a network:
 #
-#     bindings/web/test.sh ARCHIVE
+#     bindings/web/test.sh ARCHIVE [PERF_DATA]
 #
-# ARCHIVE is for wasm64-unknown-unknown. In place of it, a folder that `make -C bindings js` made can be named. A line is
-# what passed, failed or was skipped; the status is 0 if nothing failed.
+# ARCHIVE is for wasm64-unknown-unknown. In place of it, a folder that `make -C bindings js` made can be named. PERF_DATA is
+# the proved program, whose numbers the page has to have. A line is what passed, failed or was skipped; the status is 0 if
+# nothing failed.
 set -u
-if [ $# -ne 1 ] || [ ! -e "$1" ]; then
-    echo "usage: bindings/web/test.sh ARCHIVE" >&2
+if [ $# -lt 1 ] || [ ! -e "$1" ]; then
+    echo "usage: bindings/web/test.sh ARCHIVE [PERF_DATA]" >&2
     exit 2
 fi
 archive=$(realpath "$1")
+program=${2:+$(realpath "$2")}
 here=$(cd "$(dirname "$0")" && pwd)
 work=$(mktemp -d) || exit 2
 trap 'rm -rf "$work"' EXIT
@@ -40,8 +42,9 @@ build && cmp -s "$page" "$work/out/perf-view.html" && pass "the page is the same
     fail "the page differs from one time to the next"
 folder=$archive
 [ -d "$folder" ] || folder=$work/out/js
-if node "$here/model_test.mjs" "$folder" >"$work/log" 2>&1; then
+if node "$here/model_test.mjs" "$folder" ${program:+"$program"} >"$work/log" 2>&1; then
     pass "the model of a recording: $(tail -n 1 "$work/log")"
+    grep '^skipped' "$work/log"
 else
     fail "the model of a recording"
     grep -A 3 '^FAILED' "$work/log"
@@ -56,7 +59,7 @@ if ! command -v python3 >/dev/null; then
     exit $status
 fi
 for browser in chromium firefox; do
-    python3 "$here/browser_test.py" "$page" --browser $browser
+    python3 "$here/browser_test.py" "$page" --browser $browser ${program:+--program "$program"}
     ended=$?
     [ $ended = 0 ] || [ $ended = 77 ] || status=1
 done

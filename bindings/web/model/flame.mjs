@@ -9,7 +9,7 @@ const PLACE = 3;
 const NOTHING = 0xffffffff;
 const ROOT = "all";
 
-/** Boxes by their numbers, each after its parent. What one is has a kind: 1 an event, 2 a thread's name, 3 a place. */
+/** Boxes by their numbers, each after its parent. What one is has a kind: 1 a thread's name, 2 an event, 3 a place. */
 class Boxes extends Table {
     constructor({ tree, shown }, total) {
         super({ worth: Float64Array, depth: Uint16Array }, 1024);
@@ -39,7 +39,7 @@ function ownWorths(recording, places, weight) {
     const worths = new Float64Array(recording.tree.count);
     const { node, period } = recording.samples;
     for (const place of places) {
-        worths[node[place]] += weight === "period" ? period[place] : 1;
+        worths[node[place]] += weight === "period" ? Number(period[place]) : 1;
     }
     return worths;
 }
@@ -58,7 +58,7 @@ function callersFirst(recording, own, hasEvents, minimum) {
     for (const node of tree.byDepth()) {
         const parent = boxOf[tree.parent(node)];
         if (node > 0 && parent !== NOTHING && worths[node] > 0 && boxes.worth[parent] >= least) {
-            boxOf[node] = tree.depth(node) > EVENT_DEPTH || hasEvents ? boxes.add(parent, node, worths[node]) : parent;
+            boxOf[node] = tree.depth(node) !== EVENT_DEPTH || hasEvents ? boxes.add(parent, node, worths[node]) : parent;
         }
     }
     return boxes;
@@ -76,8 +76,8 @@ function calleesFirst(recording, own, hasEvents, minimum) {
     for (let [count, left] = [nodes.length, 0]; count > 0; [count, left] = [left, 0]) {
         for (let place = 0; place < count; place++) {
             const [node, parent, worth] = [nodes[place], boxOf[place], worths[place]];
-            if (tree.depth(node) > (hasEvents ? 0 : EVENT_DEPTH) && boxes.worth[parent] >= least) {
-                boxOf[left] = boxes.add(parent, node, worth);
+            if (node > 0 && boxes.worth[parent] >= least) {
+                boxOf[left] = tree.depth(node) !== EVENT_DEPTH || hasEvents ? boxes.add(parent, node, worth) : parent;
                 nodes[left] = tree.parent(node);
                 worths[left++] = worth;
             }
@@ -166,11 +166,13 @@ function arranged(boxes, least, names) {
     return nodes;
 }
 
+/** Whether stacks have the event of their samples. */
+const hasEventsIn = ({ events }, filter) => events.length > 1 && filter.event === undefined;
+
 /** The boxes of samples. */
 function boxesOf(recording, { filter = {}, weight = "samples", inverted = false, minimum = 0 }, places) {
     const own = ownWorths(recording, places, weight);
-    const hasEvents = recording.events.length > 1 && filter.event === undefined;
-    return (inverted ? calleesFirst : callersFirst)(recording, own, hasEvents, minimum);
+    return (inverted ? calleesFirst : callersFirst)(recording, own, hasEventsIn(recording, filter), minimum);
 }
 
 /** The flame graph of the selected samples, of boxes that are at least the share `minimum` of all. */
@@ -182,23 +184,56 @@ export function flame(recording, words) {
     return { total: boxes.worth[0], nodes, samples: places.length, deepest };
 }
 
-/** The selected samples as lines of folded stacks, each with its worth. */
-export function folded(recording, { filter, weight }) {
-    const boxes = boxesOf(recording, { filter, weight }, select(recording, filter ?? {}));
-    const names = new Names(recording);
-    const rest = boxes.column("worth").slice();
-    const paths = [""];
-    const lines = [];
-    for (let box = boxes.count - 1; box > 0; box--) {
-        rest[boxes.parent(box)] -= boxes.worth[box];
+/** Of each node of the call tree at which selected samples end their sum, modulo 2^64. */
+function sumsOf({ samples }, places, weight) {
+    const sums = new Map();
+    for (const place of places) {
+        const [node, worth] = [samples.node[place], weight === "period" ? samples.period[place] : 1n];
+        sums.set(node, BigInt.asUintN(64, (sums.get(node) ?? 0n) + worth));
     }
-    for (let box = 1; box < boxes.count; box++) {
-        const parent = boxes.parent(box);
-        const name = names.list[names.of(boxes, box)];
-        paths[box] = parent === 0 ? name : `${paths[parent]};${name}`;
-        if (rest[box] > 0) {
-            lines.push(`${paths[box]} ${rest[box]}\n`);
+    return sums;
+}
+
+/** The text of the stack of each of these nodes, by its number. */
+function stacksOf({ tree, texts, shown }, nodes, hasEvents) {
+    const isNeeded = new Uint8Array(tree.count);
+    nodes.forEach((node) => { isNeeded[node] = 1; });
+    for (let node = tree.count - 1; node > 0; node--) {
+        isNeeded[tree.parent(node)] |= isNeeded[node];
+    }
+    const stacks = [""];
+    for (let node = 1; node < tree.count; node++) {
+        const [what, depth, parent] = [tree.what(node), tree.depth(node), tree.parent(node)];
+        if (isNeeded[node]) {
+            const name = depth < PLACE ? texts.list[what] : shown.textOf(shown.of(what));
+            stacks[node] = parent === 0 ? name : depth === EVENT_DEPTH && !hasEvents ? stacks[parent]
+                : `${stacks[parent]};${name}`;
         }
     }
-    return lines;
+    return stacks;
+}
+
+/** Compares texts by their bytes in UTF-8: half of a character is above all that need no halves. */
+function compareByBytes(one, other) {
+    const end = Math.min(one.length, other.length);
+    for (let at = 0; at < end; at++) {
+        const [first, second] = [one.charCodeAt(at), other.charCodeAt(at)];
+        if (first !== second) {
+            const [isHalf, isOtherHalf] = [first, second].map((it) => it >= 0xd800 && it < 0xe000);
+            return isHalf === isOtherHalf ? first - second : isHalf ? 1 : -1;
+        }
+    }
+    return one.length - other.length;
+}
+
+/** The selected samples as the lines of `perf_data fold`. */
+export function folded(recording, { filter = {}, weight }) {
+    const sums = sumsOf(recording, select(recording, filter), weight);
+    const stacks = stacksOf(recording, [...sums.keys()], hasEventsIn(recording, filter));
+    const lines = new Map();
+    for (const [node, sum] of sums) {
+        lines.set(stacks[node], BigInt.asUintN(64, (lines.get(stacks[node]) ?? 0n) + sum));
+    }
+    return Array.from(lines).sort(([one], [other]) => compareByBytes(one, other))
+        .map(([stack, sum]) => `${stack} ${sum}\n`);
 }

@@ -53,12 +53,12 @@ export const OTHERS_FOLLOW = 0xfffffffd;
 const LEAST_MARK = 0xfffff001;
 const MARKS = new Map([[0xffffff80, KERNEL_FOLLOWS], [0xfffffe00, USER_FOLLOWS]]);
 
-/** Of each sample, in the order of the file, its period and its addresses: its own, by its number or -1, and those of
- * its call chain. */
+/** Of each sample, in the order of the file, its period and its addresses: its own, by its number, and those of its call
+ * chain. */
 export class SampleAddresses extends Table {
     constructor(room) {
         super({
-            period: Float64Array, ip: Int32Array, chainStart: Float64Array, chainLength: Uint16Array,
+            period: BigUint64Array, ip: Uint32Array, chainStart: Float64Array, chainLength: Uint16Array,
         }, room);
         // Numbers of addresses, and marks.
         this.chains = new Growing(Uint32Array, 16 * room);
@@ -66,10 +66,10 @@ export class SampleAddresses extends Table {
     }
 
     /** Puts a sample, and returns its number. */
-    put(ip, period, chain) {
+    put(ip = 0n, period, chain) {
         const row = this.addRow();
         this.period[row] = period;
-        this.ip[row] = ip === undefined ? -1 : this.addresses.numberOf(Number(ip >> 32n), Number(ip & 0xffffffffn), 0);
+        this.ip[row] = this.addresses.numberOf(Number(ip >> 32n), Number(ip & 0xffffffffn), 0);
         this.chainStart[row] = this.chains.length;
         if (chain !== undefined) {
             this.chainLength[row] = chain.length;

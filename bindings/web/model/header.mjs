@@ -1,10 +1,9 @@
 // What perf states about a recording beside its frames: the machine, and the command.
 //
-// The library has opened the file before, so its head is whole; the table of features after the data may still lie, and
-// what it states outside the file is left out.
+// The library finds the features; one that it refuses, as it ends beyond the file, is left out.
 
 import { viewOf } from "../../js/config.mjs";
-import { featuresIn } from "../../js/features.mjs";
+import { RefusedFile } from "../../js/file.mjs";
 import { textOf } from "./text.mjs";
 
 const TEXTS = { hostname: 3, osRelease: 4, perfVersion: 5, architecture: 6, processor: 8 };
@@ -67,11 +66,24 @@ function commandLine(words) {
     return parts.join(" ");
 }
 
-/** What the features state, as texts. */
-export function headerOf(bytes, isLittle) {
-    const places = featuresIn(bytes, isLittle);
-    const read = (number, call) => places.has(number)
-        ? call(new Words(bytes.subarray(...places.get(number)), isLittle)) : undefined;
+/** The bytes of a feature; undefined if the file does not have it, or it is refused. */
+function featureOf(file, number) {
+    try {
+        return file.feature(number);
+    } catch (error) {
+        if (error instanceof RefusedFile) {
+            return undefined;
+        }
+        throw error;
+    }
+}
+
+/** What the features of a file state, as texts. */
+export function headerOf(file, isLittle) {
+    const read = (number, call) => {
+        const bytes = featureOf(file, number);
+        return bytes === undefined ? undefined : call(new Words(bytes, isLittle));
+    };
     const header = {};
     for (const [name, number] of Object.entries(TEXTS)) {
         header[name] = read(number, (words) => words.text());

@@ -27,7 +27,7 @@ export const NO_NAME = 0xffffffff;
 /** Of samples, in order of time, what is known by then. */
 const SAMPLE_COLUMNS = {
     frame: Uint32Array, time: Float64Array, task: Uint32Array, cpu: Uint32Array, event: Uint32Array, name: Uint32Array,
-    node: Uint32Array, period: Float64Array,
+    node: Uint32Array, period: BigUint64Array,
 };
 
 export class History {
@@ -177,7 +177,7 @@ export class History {
         const { frames, samples, addresses, tasks } = this;
         const place = samples.addRow();
         const event = frames.event[frame];
-        const name = task === NO_TASK ? this.#noName() : tasks.nameOf(task);
+        const name = task === NO_TASK ? tasks.nameOfThread(0) : tasks.nameOf(task);
         samples.frame[place] = frame;
         samples.time[place] = time;
         samples.task[place] = task;
@@ -185,19 +185,14 @@ export class History {
         samples.event[place] = event;
         samples.name[place] = name;
         samples.period[place] = addresses.period[sample];
-        const caller = this.tree.child(this.tree.child(0, this.eventNames[event]), name);
+        const caller = this.tree.child(this.tree.child(0, name), this.eventNames[event]);
         this.placeOfSample[sample] = place;
         samples.node[place] = this.#leaf(caller, sample, frames.misc[frame] & MODE, task);
     }
 
-    #noName() {
-        this.noName ??= this.texts.numberOf(":-1");
-        return this.noName;
-    }
-
     /** The node of a sample's chain, which begins below `caller`. */
     #leaf(caller, sample, ownMode, task) {
-        const space = this.spaces.of(task === NO_TASK ? undefined : this.tasks.pid(task));
+        const space = this.spaces.of(task === NO_TASK ? 0 : this.tasks.pid(task));
         const { addresses } = this;
         const chains = addresses.chains.array;
         const chain = this.#chain;
@@ -212,7 +207,7 @@ export class History {
                 mode = address === KERNEL_FOLLOWS ? MODES.kernel : address === USER_FOLLOWS ? MODES.user : 0;
             }
         }
-        if (count === 0 && addresses.ip[sample] >= 0) {
+        if (count === 0) {
             chain[count++] = this.#placeOf(space, addresses.ip[sample], ownMode);
         }
         let node = caller;

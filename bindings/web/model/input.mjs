@@ -2,6 +2,7 @@
 
 import { isFile, viewOf } from "../../js/config.mjs";
 import { isPipe, periodsOfPipe } from "../../js/features.mjs";
+import { FRONT } from "../../js/file.mjs";
 import { headerOf, ownPeriod } from "./header.mjs";
 
 /** The place in the head of a file of the size of an attribute's entry, and of where the attributes are. */
@@ -21,8 +22,8 @@ function periodsOf({ events }, bytes, isLittle) {
 function openFile(library, ped, bytes) {
     const file = ped.open(bytes);
     const isLittle = file.order === library.LITTLE;
-    const header = headerOf(bytes, isLittle);
-    const periods = isPipe(bytes) ? periodsOfPipe(bytes, isLittle) : periodsOf(file, bytes, isLittle);
+    const header = headerOf(file, isLittle);
+    const periods = isPipe(bytes) ? periodsOfPipe(file[FRONT], isLittle) : periodsOf(file, bytes, isLittle);
     const events = file.events.map((event, index) => ({
         index, name: event.name, type: event.type, config: event.event, reading: event.config,
         ownPeriod: periods[index],

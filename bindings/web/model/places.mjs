@@ -6,8 +6,10 @@ import { hexOf } from "./text.mjs";
 
 const UNKNOWN = 0;
 const KERNEL = 1;
-const NAMED = 2;
-const FILES = 3;
+const FILES = 2;
+/** Kinds from here on, downward, are code of the kernel that has a name by a record. */
+const NAMED = 0xffffffff;
+const LEAST_NAMED = 0x80000000;
 /** In place of the number of a name: the code is gone. */
 export const GONE = 0xffffffff;
 
@@ -22,8 +24,8 @@ export class Places {
 
     kernel(upper, lower) { return this.ids.numberOf(KERNEL, upper, lower); }
 
-    /** Code of the kernel, by the number of its name. */
-    named(name) { return this.ids.numberOf(NAMED, name, 0); }
+    /** Code of the kernel, with the number of its name. */
+    named(name, upper, lower) { return this.ids.numberOf(NAMED - name, upper, lower); }
 
     inFile(file, upper, lower) { return this.ids.numberOf(file + FILES, upper, lower); }
 
@@ -32,15 +34,18 @@ export class Places {
         if (kind === UNKNOWN) {
             return "[unknown]";
         }
-        return kind === KERNEL ? `${hexOf(upper, lower)}_[k]` : kind === NAMED ? `${this.names.list[upper]}_[k]`
+        return kind === KERNEL || kind >= LEAST_NAMED ? `${hexOf(upper, lower)}_[k]`
             : `${this.files.list[kind - FILES]}+${hexOf(upper, lower)}`;
     }
 
-    /** The name of a place by tables of symbols, or undefined. */
+    /** The name of a place by tables of symbols, or undefined. With one of the kernel also by records. */
     symbolOf(place, symbols) {
         const [kind, upper, lower] = [this.ids.first[place], this.ids.second[place], this.ids.third[place]];
-        if (kind === UNKNOWN || kind === NAMED) {
+        if (kind === UNKNOWN) {
             return undefined;
+        }
+        if (kind >= LEAST_NAMED) {
+            return symbols.kernel && `${this.names.list[NAMED - kind]}_[k]`;
         }
         const table = kind === KERNEL ? symbols.kernel : symbols.files.get(this.files.list[kind - FILES]);
         const name = table?.find(upper, lower);
@@ -98,7 +103,8 @@ export class PlaceFinder {
     #findNamed(space, address) {
         const mapping = this.spaces.find(space, this.addresses.first[address], this.addresses.second[address]);
         const name = mapping < 0 ? GONE : this.table.file[mapping];
-        return name === GONE ? this.#unnamed(address) : this.places.named(name);
+        return name === GONE ? this.#unnamed(address)
+            : this.places.named(name, this.addresses.first[address], this.addresses.second[address]);
     }
 
     #find(space, address) {

@@ -28,6 +28,9 @@ const ABOUT_TASKS = new Set([MMAP, MMAP2, COMM, EXIT, FORK, READ, ITRACE_START, 
 const WITH_FIELDS = new Set([...ABOUT_TASKS, KSYMBOL, SAMPLE, LOST, LOST_SAMPLES]);
 const WITHOUT_FILE = /^(?:\/\/anon$|\/dev\/zero|\/anon_hugepage|\[stack|\/SYSV|\[heap\]$)/;
 
+/** A sum of numbers of 64 bits, modulo 2^64. */
+const sumOf = (one, other) => BigInt.asUintN(64, one + other);
+
 export class Reading {
     constructor(library, input) {
         this.types = library.TYPES;
@@ -45,7 +48,9 @@ export class Reading {
         this.lost = 0n;
         this.has = { hasTime: false, hasCpu: false, hasChains: false, hasSwitches: false };
         this.cpus = new Set();
-        this.sums = input.events.map(() => ({ samples: 0, period: 0n, frames: 0 }));
+        this.sums = input.events.map(() => ({
+            samples: 0, period: 0n, first: undefined, last: undefined, lost: 0n, refused: 0, frames: 0,
+        }));
         [this.least, this.most] = [Infinity, -Infinity];
     }
 
@@ -68,7 +73,7 @@ export class Reading {
         const [isRefused, type] = [frame.refusal !== 0, frame.type];
         const event = this.#eventOf(frame, type);
         const fields = !isRefused && event >= 0 && WITH_FIELDS.has(type) ? frame.fields : undefined;
-        const time = this.#timeOf(frame, type, isRefused);
+        const time = this.#timeOf(frame, isRefused);
         const cpu = isRefused ? undefined : frame.cpu;
         const row = frames.addRow();
         frames.at[row] = frame.start;
@@ -81,17 +86,18 @@ export class Reading {
         frames.task[row] = isRefused ? NO_TASK : this.#taskOf(frame, fields, type, time);
         frames.cpu[row] = cpu ?? NO_CPU;
         frames.extra[row] = isRefused ? this.#refuse(frame, row)
-            : event < 0 ? NOTHING : this.#detail(frame, fields, type, event);
+            : event < 0 ? NOTHING : this.#detail(frame, fields, type, event, time);
         if (cpu !== undefined && (time > -Infinity || type === SAMPLE)) {
             this.cpus.add(cpu);
         }
-        this.#count(isRefused ? "refused" : recordName(type, this.types));
+        this.#count(recordName(type, this.types));
         if (event >= 0) {
             this.sums[event].frames += 1;
+            this.sums[event].refused += isRefused ? 1 : 0;
         }
     }
 
-    /** Counts a record by the name of its type. A file can have more types without one than can be shown. */
+    /** Counts a frame by the name of its type. A file can have more types without one than can be shown. */
     #count(name) {
         const { counts } = this;
         const shown = counts.has(name) || counts.size < MOST_TYPES || !name.startsWith("type ") ? name : "others";
@@ -105,10 +111,10 @@ export class Reading {
         return frame.event?.number ?? NO_EVENT;
     }
 
-    /** The time after the first one that was read. perf's own records have 0 in place of a time. */
-    #timeOf(frame, type, isRefused) {
+    /** The time after the first one that was read. 0 is in place of a time that is not known. */
+    #timeOf(frame, isRefused) {
         const time = isRefused ? undefined : frame.time;
-        if (time === undefined || time === NO_TIME || time === 0n && type !== SAMPLE) {
+        if (time === undefined || time === NO_TIME || time === 0n) {
             return -Infinity;
         }
         this.base ??= time;
@@ -133,7 +139,8 @@ export class Reading {
     #taskOf(frame, fields, type, time) {
         if (fields !== undefined && ABOUT_TASKS.has(type)) {
             const pid = Number(fields.pid);
-            return pid === KERNEL_PID ? NO_TASK : this.tasks.numberOf(pid, Number(fields.tid));
+            const isOfKernel = pid === KERNEL_PID && (type === MMAP || type === MMAP2);
+            return isOfKernel ? NO_TASK : this.tasks.numberOf(pid, Number(fields.tid));
         }
         // The sample ids of records that perf made have zeros.
         const { pid } = frame;
@@ -142,10 +149,10 @@ export class Reading {
     }
 
     /** Keeps what follows from a record, and returns its number. */
-    #detail(frame, fields, type, event) {
+    #detail(frame, fields, type, event, time) {
         switch (type) {
             case SAMPLE:
-                return this.#sample(frame, fields, event);
+                return this.#sample(frame, fields, event, time);
             case MMAP:
             case MMAP2:
                 return this.#mapping(frame, fields);
@@ -158,7 +165,8 @@ export class Reading {
                 return this.tasks.numberOf(Number(fields.ppid), Number(fields.ptid));
             case LOST:
             case LOST_SAMPLES:
-                this.lost += fields.lost;
+                this.lost = sumOf(this.lost, fields.lost);
+                this.sums[event].lost = sumOf(this.sums[event].lost, fields.lost);
                 return NOTHING;
             case SWITCH:
             case SWITCH_CPU_WIDE:
@@ -169,15 +177,20 @@ export class Reading {
         }
     }
 
-    #sample(frame, { ip, period, callchain }, event) {
-        const { has, sums, input } = this;
+    #sample(frame, { ip, period, callchain }, event, time) {
+        const { has, input } = this;
+        const sum = this.sums[event];
         has.hasTime ||= frame.time !== undefined;
         has.hasCpu ||= frame.cpu !== undefined;
         has.hasChains ||= callchain !== undefined && callchain.length > 0;
         const weight = period ?? input.events[event].ownPeriod;
-        sums[event].samples += 1;
-        sums[event].period += weight;
-        return this.samples.put(ip, Number(weight), callchain);
+        sum.samples += 1;
+        sum.period = sumOf(sum.period, weight);
+        if (time > -Infinity) {
+            sum.first = sum.first < frame.time ? sum.first : frame.time;
+            sum.last = sum.last > frame.time ? sum.last : frame.time;
+        }
+        return this.samples.put(ip, weight, callchain);
     }
 
     #mapping({ misc, type }, fields) {

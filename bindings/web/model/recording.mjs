@@ -13,7 +13,7 @@ import { recordName } from "./record_names.mjs";
 import { ShownPlaces, Symbols } from "./symbols.mjs";
 import { records, tasks } from "./tables.mjs";
 import { hexOf, nameOf } from "./text.mjs";
-import { NAME_DEPTH } from "./tree.mjs";
+import { EVENT_DEPTH } from "./tree.mjs";
 
 const MOST_BYTES = 65536;
 const HEADER = 8;
@@ -68,7 +68,7 @@ export class Recording {
     /** The text of the place of a sample, or "". */
     placeOf(index) {
         const node = this.samples.node[this.placeOfSample[this.frames.extra[index]]];
-        return this.tree.depth(node) > NAME_DEPTH ? this.shown.textOf(this.shown.of(this.tree.what(node))) : "";
+        return this.tree.depth(node) > EVENT_DEPTH ? this.shown.textOf(this.shown.of(this.tree.what(node))) : "";
     }
 
     /** A frame as the library reads it; undefined if no event has it. */

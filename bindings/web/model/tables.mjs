@@ -16,7 +16,7 @@ export function tasks(recording, { filter = {} } = {}) {
     for (const place of select(recording, filter)) {
         const [task, time] = [samples.task[place], samples.time[place]];
         sums.samples[task] += 1;
-        sums.period[task] += samples.period[place];
+        sums.period[task] += Number(samples.period[place]);
         if (time > -Infinity) {
             first[task] = Number.isNaN(first[task]) ? time : first[task];
             last[task] = time;

@@ -1,21 +1,27 @@
 // The threads of a recording, each of one process, and what they are called.
 
+import { Growing } from "../../js/growing.mjs";
 import { Table, Triples } from "./growing.mjs";
 
 const NO_NAME = 0;
 
-/** Threads by their numbers, in the order in which they come first. A thread has a name, which its process gave it. */
+/** Threads by their numbers, in the order in which they come first: a process and the id of a thread in it, by which
+ * alone it has its name. */
 export class Tasks extends Table {
+    #ids = new Triples();
+    #names = new Growing(Uint32Array);
+    #ownNames = new Map();
+
     constructor(texts) {
         super({
-            name: Uint32Array,
+            // Of the thread's id, in the order in which those come first.
+            thread: Uint32Array,
             // Whether a frame is about the thread; others are only named as parents.
             isKnown: Uint8Array,
             start: Float64Array, end: Float64Array, first: Float64Array,
         });
         this.texts = texts;
         this.ids = new Triples();
-        this.ownNames = new Map();
     }
 
     /** The number of a thread. */
@@ -23,9 +29,19 @@ export class Tasks extends Table {
         const task = this.ids.numberOf(pid, tid, 0);
         if (task === this.count) {
             this.addRow();
+            this.thread[task] = this.#threadOf(tid);
             this.start[task] = this.end[task] = this.first[task] = NaN;
         }
         return task;
+    }
+
+    /** The number of the id of a thread. */
+    #threadOf(tid) {
+        const thread = this.#ids.numberOf(tid, 0, 0);
+        if (thread === this.#names.length) {
+            this.#names.push(NO_NAME);
+        }
+        return thread;
     }
 
     pid(task) { return this.ids.first[task]; }
@@ -33,24 +49,27 @@ export class Tasks extends Table {
     tid(task) { return this.ids.second[task]; }
 
     /** From here on a thread has the name with that number. */
-    rename(task, text) { this.name[task] = text + 1; }
+    rename(task, text) { this.#names.array[this.thread[task]] = text + 1; }
 
-    /** A new thread has the name of the one that made it. */
-    inherit(task, parent) {
-        this.name[task] = this.tid(parent) === 0 ? this.nameOf(parent) + 1 : this.name[parent];
-    }
+    /** A new thread has the name of the one that made it, or none. */
+    inherit(task, parent) { this.#names.array[this.thread[task]] = this.#names.array[this.thread[parent]]; }
 
     /** The number of the name that a thread has now. One without a name is called by its number. */
-    nameOf(task) {
-        const name = this.name[task];
+    nameOf(task) { return this.#nameOf(this.thread[task]); }
+
+    /** The same of the thread with an id. */
+    nameOfThread(tid) { return this.#nameOf(this.#threadOf(tid)); }
+
+    #nameOf(thread) {
+        const name = this.#names.array[thread];
         if (name !== NO_NAME) {
             return name - 1;
         }
-        const tid = this.tid(task);
-        let own = this.ownNames.get(tid);
+        let own = this.#ownNames.get(thread);
         if (own === undefined) {
-            own = this.texts.numberOf(tid === 0 ? "swapper" : `:${tid | 0}`);
-            this.ownNames.set(tid, own);
+            const tid = this.#ids.first[thread];
+            own = this.texts.numberOf(tid === 0 ? "swapper" : `:${tid}`);
+            this.#ownNames.set(thread, own);
         }
         return own;
     }

@@ -9,8 +9,8 @@ export const textOf = (bytes) => decoder.decode(bytes);
  * terminals are `_`. */
 export const nameOf = (text) => text.replace(/[;\u0000-\u001f\u007f-\u009f\u2028-\u202e\u2066-\u2069]/g, "_");
 
-/** The last part of a path; all of it if it ends with a slash. */
-export const lastPart = (path) => path.slice(path.lastIndexOf("/") + 1) || path;
+/** The last part of a path. */
+export const lastPart = (path) => path.slice(path.lastIndexOf("/") + 1);
 
 /** A number of 64 bits, by its upper and its lower half, in hexadecimal. */
 export function hexOf(upper, lower) {

@@ -1,9 +1,9 @@
-// The tree of all call chains, outermost call first: event, thread's name, and then places.
+// The tree of all call chains, outermost call first: thread's name, event, and then places.
 
 import { Table, Triples } from "./growing.mjs";
 
-export const EVENT_DEPTH = 1;
-export const NAME_DEPTH = 2;
+export const NAME_DEPTH = 1;
+export const EVENT_DEPTH = 2;
 
 /** Nodes by their numbers. The root is 0, and a node comes after its parent. */
 export class CallTree {
@@ -21,7 +21,7 @@ export class CallTree {
     /** The parent of a node; of the root itself. */
     parent(node) { return this.#ids.first[node]; }
 
-    /** What a node is: by its depth the number of an event's name, of a thread's name, or of a place. */
+    /** What a node is: by its depth the number of a thread's name, of an event's name, or of a place. */
     what(node) { return this.#ids.second[node]; }
 
     depth(node) { return this.#table.depth[node]; }

@@ -67,12 +67,17 @@ function headerCard({ header, kind }) {
     return card("Machine", false, facts.length ? element("dl", { class: "facts" }, ...facts) : quiet(none));
 }
 
+/** The time of the first or the last sample of an event. */
+const sampleTime = (time) => numeric(time === undefined ? "–" : clockText(time, 0));
+
 function eventsCard({ events, samples }) {
     const heads = [plain("Event"), plain("Type and config"), numeric("Samples"), plain("Share"), numeric("Period"),
-        numeric("Frames")];
+        numeric("First sample"), numeric("Last sample"), numeric("Frames"), numeric("Lost"), numeric("Refused")];
     return card("Events", true, table(heads, events.map((event) => [
         plain(event.name), { text: `${event.type}:${event.config}`, kind: "mono" }, numeric(countText(event.samples)),
-        share(event.samples, samples), numeric(countText(event.period)), numeric(countText(event.frames)),
+        share(event.samples, samples), numeric(countText(event.period)), sampleTime(event.first),
+        sampleTime(event.last), numeric(countText(event.frames)), numeric(countText(event.lost)),
+        numeric(countText(event.refused)),
     ])));
 }
 
@@ -89,7 +94,7 @@ function figures({ samples, frames, duration, threads, lost, refused, hasTime })
 
 function countsCard({ records }) {
     const most = records.reduce((most, { count }) => Math.max(most, count), 0);
-    return card("Records", false, table([plain("Type"), numeric("Records"), plain("")],
+    return card("Records", false, table([plain("Type"), numeric("Frames"), plain("")],
         records.map(({ name, count }) => [plain(name), numeric(countText(count)), share(count, most)])));
 }
 

@@ -82,7 +82,8 @@ export class Records {
     show() {
         const { state, overview, symbols } = this.#shell;
         if (!this.#kind.select.options.length) {
-            const kinds = overview.records.map(({ name, count }) => [name, `${name} (${countText(count)})`]);
+            const kinds = [...overview.records, { name: "refused", count: overview.refused.count }]
+                .filter(({ count }) => count > 0).map(({ name, count }) => [name, `${name} (${countText(count)})`]);
             setOptions(this.#kind.select, [["", "All"], ...kinds], "");
         }
         this.#kind.select.value = state.kind;

@@ -193,7 +193,7 @@ export async function compareStacks() {
         const model = await opened(bytesIn("examples", input));
         const lines = execFileSync("python3", [join(HERE, "folded.py"), join(HERE, "data", `${name}.txt`)],
             { encoding: "utf8" })
-            .trimEnd().split("\n").map((line) => name === "events" ? line : line.slice(line.indexOf(";") + 1)).sort();
+            .trimEnd().split("\n").map((line) => name === "events" ? line : line.replace(/;[^;]*/, "")).sort();
         same(`folded stacks of ${input}`, await folded(model), lines);
         same(`the flame graph of ${input}`, foldedOf(await model.call("flame", { filter: {}, minimum: 0 })), lines);
         const inverted = await model.call("flame", { filter: {}, minimum: 0, inverted: true });

@@ -4,7 +4,7 @@
     perf script -i perf.data -F comm,tid,event,ip,dso > script.txt
     bindings/web/test/folded.py script.txt
 
-A line has the event, the thread's name, and from the outermost call on FILE+0xOFFSET, 0xADDRESS_[k] in the kernel or
+A line has the thread's name, the event, and from the outermost call on FILE+0xOFFSET, 0xADDRESS_[k] in the kernel or
 [unknown]. perf prints the offset in the file as a place's address."""
 
 import collections
@@ -35,7 +35,7 @@ def samples_of(lines):
         found = HEAD.match(line)
         if found:
             comm, _, event, address, file = found.groups()
-            head, places = [event, comm], [name_of(address, file)] if address else []
+            head, places = [comm, event], [name_of(address, file)] if address else []
     if head:
         yield head, places
 

@@ -5,11 +5,15 @@ import { join, resolve } from "node:path";
 import { fileURLToPath, pathToFileURL } from "node:url";
 import { server } from "../model/protocol.mjs";
 
-const TOP = resolve(fileURLToPath(import.meta.url), "../../../..");
+export const TOP = resolve(fileURLToPath(import.meta.url), "../../../..");
 /** The library's module, in the folder that is the program's argument. */
 export const library = await import(pathToFileURL(resolve(process.argv[2], "perf_event_data.mjs")));
 
 export const results = { passed: 0, FAILED: 0 };
+
+export function skip(text) {
+    console.log(`skipped: ${text}`);
+}
 
 export function check(text, holds) {
     const result = holds ? "passed" : "FAILED";

@@ -5,10 +5,7 @@ import { check, folded, messageOf, opened, same } from "./harness.mjs";
 import {
     comm, exit, fileOf, fork, lost, mmap, mmap2, numbersFrom, sample, switched, switchedCpu, writing,
 } from "./made.mjs";
-
-const KERNEL = -128n;
-const USER = -512n;
-const GUEST = -2048n;
+import { KERNEL, recordsOf, shuffled, USER } from "./made_histories.mjs";
 
 /** The text of an address of a process by the records before `end`: the last mapping that has it, of its parent before
  * the FORK that made it. */
@@ -58,42 +55,12 @@ function stackOf(records, place) {
     return [nameBefore(records, place, pid, tid), ...frames.reverse()].join(";");
 }
 
-/** A record of processes 1 to 5, at random, in a small range of addresses, so that mappings often overlap. */
-function randomRecord(random, base, time) {
-    const pid = 1 + random(5);
-    const tid = pid * 10 + random(2);
-    const kind = random(20);
-    const address = () => base + BigInt(random(64) * 1024 + random(3));
-    if (kind < 8) {
-        const length = BigInt(1 + random([16, 3000, 40000][random(3)]));
-        return { make: mmap2, pid, tid: pid, time, address: address(), length, offset: BigInt(random(9) * 4096),
-            name: `/lib/${random(30)}` };
-    }
-    if (kind < 10) {
-        const ppid = 1 + random(5);
-        return { make: fork, pid, tid, ppid, ptid: ppid * 10 + random(2), time, misc: random(5) === 0 ? 0x2000 : 0 };
-    }
-    if (kind < 11) {
-        return { make: comm, pid, tid, time, name: `name ${random(9)}` };
-    }
-    const chain = Array.from({ length: random(7) + 1 },
-        () => [address, address, address, address, () => [KERNEL, USER, GUEST][random(3)]][random(5)]());
-    return { make: sample, pid, tid, time, chain: [...chain, address()] };
-}
-
 export async function compareHistories() {
     let [lines, differ] = [0, 0];
     for (let seed = 1; seed <= 60; seed++) {
         const random = numbersFrom(seed * 7919);
-        const base = [0x10000n, 0x7fff0000ffff0000n - 0x8000n, 0xfffff000n, 0x8000000000000000n - 0x8000n][seed % 4];
-        let time = 1000;
-        const records = Array.from({ length: 400 }, () => randomRecord(random, base, time += random(3)));
-        // The file has them in another order than that of time; records of one time stay in their order.
-        const shuffled = records.map((record, place) => [record, record.time + random(100), place])
-            .sort((one, other) => one[0].time === other[0].time ? one[2] - other[2] : one[1] - other[1]
-                || one[2] - other[2]);
-        const model = await opened(fileOf(inOrder(shuffled.map(([record]) => record), records)
-            .map((it) => it.make(it))));
+        const records = recordsOf(random, seed);
+        const model = await opened(fileOf(shuffled(random, records)));
         const expected = new Map();
         records.forEach((it, place) => {
             if (it.make === sample) {
@@ -107,13 +74,6 @@ export async function compareHistories() {
         differ += found.join("\n") === all.join("\n") ? 0 : 1;
     }
     check(`${lines} stacks of 60 histories, ${differ} histories differ`, differ === 0 && lines > 5000);
-}
-
-/** Records in an order, with those of one time in the order that they have in the other list. */
-function inOrder(shuffled, records) {
-    const byTime = new Map();
-    records.forEach((it) => byTime.set(it.time, [...byTime.get(it.time) ?? [], it]));
-    return shuffled.map((it) => byTime.get(it.time).shift());
 }
 
 export function compareOrder() {
@@ -195,7 +155,7 @@ export async function compareOrders() {
     }
     writing.isLittle = true;
     same("a big-endian machine", texts, new Array(2)
-        .fill("first 0x0 0|second 0x1 9|1|2|second;name;a+0x2123;0x1234_[k] 1"));
+        .fill("first 0x0 0|second 0x1 9|1|2|name;second;a+0x2123;0x1234_[k] 1"));
 }
 
 export async function nameThreads() {
@@ -209,7 +169,7 @@ export async function nameThreads() {
         sample({ pid: 3, time: 8, ip: 1n }),
     ];
     const model = await opened(fileOf(frames));
-    same("names of threads", await folded(model), [":-1;[unknown] 1", ":3;[unknown] 1", ";[unknown] 1",
+    same("names of threads", await folded(model), [":3;[unknown] 1", ":4294967295;[unknown] 1", ";[unknown] 1",
         "one;[unknown] 3",
         "swapper;[unknown] 1"].sort());
     same("a filter by name", (await model.call("flame", { filter: { comm: "one" } })).samples, 3);
@@ -290,10 +250,10 @@ export async function selectSamples() {
     const model = await opened(fileOf(frames, ["first", "second"]));
     const head = "index,time,event,name,pid,tid,cpu,period,place";
     const lines = [`2,1.000000007,first,"'-x",1,2,3,5,"a,""b""+0x10"`, `3,1.000000009,first,:1,1,1,2,1,"a,""b""+0x20"`,
-        "4,2.000000001,second,:2,4,2,3,1,[unknown]"];
+        `4,2.000000001,second,"'-x",4,2,3,1,[unknown]`];
     for (const [filter, places] of [[{}, [0, 1, 2]], [{ cpu: 3 }, [0, 2]], [{ tid: 2 }, [0, 2]], [{ pid: 1 }, [0, 1]],
         [{ pid: 1, tid: 2 }, [0]],
-        [{ event: 1 }, [2]], [{ from: 1000000007, cpu: 3 }, [2]], [{ to: 1000000008 }, [0, 1]], [{ comm: "-x" }, [0]],
+        [{ event: 1 }, [2]], [{ from: 1000000007, cpu: 3 }, [2]], [{ to: 1000000008 }, [0, 1]], [{ comm: "-x" }, [0, 2]],
             [{ pid: 9 }, []]]) {
         const text = await model.call("export", { kind: "csv", filter });
         same(`samples of ${JSON.stringify(filter)}`, text.trimEnd().split("\r\n"),
@@ -320,13 +280,13 @@ export async function weighEvents() {
     ];
     const model = await opened(fileOf([mmap2({ pid: 1, time: 0, address: 0n, length: 0x100n, name: "/a" }), ...frames],
         ["x;y", "other"]));
-    same("several events", await folded(model, { weight: "period" }), ["other;:1;0x10_[k] 1", "other;:1;a+0x20 5",
-        `other;:1;a+0x20;a+0x10 ${2 ** 40}`, "x_y;:1;a+0x20;a+0x10 10"].sort());
+    same("several events", await folded(model, { weight: "period" }), [":1;other;0x10_[k] 1", ":1;other;a+0x20 5",
+        `:1;other;a+0x20;a+0x10 ${2 ** 40}`, ":1;x_y;a+0x20;a+0x10 10"].sort());
     same("one event", await folded(model, { filter: { event: 1 }, weight: "period" }), [":1;0x10_[k] 1", ":1;a+0x20 5",
         `:1;a+0x20;a+0x10 ${2 ** 40}`].sort());
     const { nodes, total } = await model.call("flame", { filter: {}, weight: "period", minimum: 0.5 });
     same("boxes that are wide enough", [...nodes.of].map((name) => nodes.name[name]),
-        ["all", "other", ":1", "a+0x20", "a+0x10"]);
+        ["all", ":1", "other", "a+0x20", "a+0x10"]);
     same("the whole", total, 2 ** 40 + 16);
     same("periods of events", model.overview.events.map((it) => it.period), [10n, BigInt(2 ** 40 + 6)]);
     const none = await model.call("flame", { filter: { event: 5 } });

@@ -42,6 +42,11 @@ export async function cutFiles() {
         wrong += await isHandled(bytes.subarray(0, length)) ? 0 : 1;
     }
     check(`files cut at each length below 2048: ${wrong} are wrong`, wrong === 0);
+    const pipe = bytesIn("examples/pipe.data");
+    for (let length = 0; length < pipe.length; length += length < 1024 ? 1 : 97) {
+        wrong += await isHandled(pipe.subarray(0, length)) ? 0 : 1;
+    }
+    check(`pipes cut at each length below 1024: ${wrong} are wrong`, wrong === 0);
     const stream = bytesIn("examples/recording.stream");
     for (let length = 0; length < 1024; length++) {
         wrong += await isHandled(stream.subarray(0, length)) ? 0 : 1;
@@ -53,14 +58,13 @@ export async function changeBytes() {
     const random = numbersFrom(99);
     let wrong = 0;
     for (let number = 0; number < 1500; number++) {
-        const bytes = bytesIn(["examples/events.data", "examples/recording.stream",
-            "examples/samples.stream"][number % 3]);
+        const bytes = bytesIn(["examples/events.data", "examples/recording.stream", "examples/pipe.data"][number % 3]);
         const end = number % 2 ? bytes.length : 1200;
         for (let change = 0; change < 1 + random(20); change++) {
             bytes[random(end)] = [0, 1, 8, 16, 127, 128, 255][random(7)];
         }
         if (number % 6 < 3) {
-            // The features, which the library does not read.
+            // The features of the file.
             for (let change = 0; change < 30; change++) {
                 bytes[8328 + random(Math.min(1200, bytes.length - 8328))] = [0, 1, 8, 16, 127, 128, 255][random(7)];
             }
@@ -154,7 +158,7 @@ export async function limitLists() {
     same("refused frames", [overview.refused.count, overview.refused.first.length], [1100, 1000]);
     const others = overview.records.find((it) => it.name === "others").count;
     same("types", [overview.records.length, overview.records.reduce((sum, it) => sum + it.count, 0), others],
-        [1003, 82100, 29001]);
+        [1002, 82100, 29001]);
     const { rows } = await model.call("records", { filter: {}, kind: "refused", offset: 1090, count: 1 });
     same("a refused frame that is not listed", rows[0].summary, "its id is that of no event of the file");
 }
@@ -172,7 +176,8 @@ export async function listRefused() {
         `0 ${first} 64`, `2 ${first + 128} 24`, `4 ${first + 216} 12`]);
     same("reasons", refused.first.map((it) => it.message), ["its id is that of no event of the file: 107",
         "unexpected EOF during parsing", "it is too short for an id"]);
-    same("counts", [refused.count, frames, samples, records.find((it) => it.name === "refused").count], [3, 6, 3, 3]);
+    same("counts", [refused.count, frames, samples, ...records.map(({ name, count }) => `${name} ${count}`)],
+        [3, 6, 3, "sample 5", "comm 1"]);
     const frameOf = await model.call("frame", { index: 2 });
     same("a refused frame", [frameOf.name, frameOf.message, frameOf.at],
         ["refused", "unexpected EOF during parsing", first + 128]);
