@@ -25,7 +25,7 @@ def main():
             faults += [] if found else [f"{edit.relative_to(TOP)} has no body"]
         except (OSError, ValueError) as why:
             faults.append(f"{edit.relative_to(TOP)}: {why}")
-    print("\n".join([*faults, f"{count} wrong bodies can be applied; edits that cannot be: {len(faults)}"]))
+    print("\n".join([*faults, f"{count} wrong bodies can be applied; edits that cannot: {len(faults)}"]))
     return 0 if count and not faults else 1
 
 
