@@ -8,7 +8,8 @@ use Rattle.std.proofs.lemmas.Bool.{le-leb, ne_eqb}
 use Rattle.std.proofs.lemmas.List.Folds.{list_all-append}
 use Rattle.std.proofs.lemmas.List.Elements.{All-nil, All-cons}
 use Rattle.std.specs.Str.Lossy.{after_first_chunk}
-use Rattle.perf_reports.specs.TaskLines.{HasNoControl, hex_byte, stays, escaped_byte, escaped_char, escaped_text, escape_name, escaped_within, text_in_front, invalid_after}
+use Rattle.perf_text.specs.Numbers.{hex_byte}
+use Rattle.perf_reports.specs.TaskLines.{HasNoControl, stays, escaped_byte, escaped_char, escaped_text, escape_name, escaped_within, text_in_front, invalid_after}
 use Rattle.perf_reports.proofs.Escaped.{both, picked}
 
 -- `HasNoControl` as a test

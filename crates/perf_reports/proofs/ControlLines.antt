@@ -7,7 +7,8 @@ use Rattle.perf_types.specs.declared.namespaces.NamespaceEntry.{NamespaceEntry}
 use Rattle.perf_types.specs.Mmap2.{Mmap2Value}
 use Rattle.perf_types.specs.MmapDetail.{DetailValue, inode_is, build_id_is}
 use Rattle.perf_records.specs.Records.{RecordValue, comm_is, mmap_is, mmap2_is, fork_is, exit_is, namespaces_is}
-use Rattle.perf_reports.specs.TaskLines.{HasNoControl, hex, hex_byte, letter, place, protection, file, namespace, escape_name, line, task_line, mmap2_line, task_line_of}
+use Rattle.perf_reports.specs.TaskLines.{HasNoControl, letter, place, protection, file, namespace, escape_name, line, task_line, mmap2_line, task_line_of}
+use Rattle.perf_text.specs.Numbers.{hex, hex_byte}
 use Rattle.perf_reports.proofs.Control.{Clean, no_control, clean_joined, clean_each, clean_decimal, clean_digits, clean_hex_byte, clean_escaped}
 use Rattle.perf_reports.proofs.Escaped.{picked}
 

@@ -5,6 +5,7 @@ mod Counted
 mod Escaped
 mod FramePrinted
 mod Inode
+mod KnownReaders
 mod Printed
 mod RecordsPrinted
 mod RecordingPrinted

@@ -54,16 +54,18 @@ module _ {W E : Type 0} (out : W → Option (List ℕ)) (err : E → Option (Lis
       PrintsAll out err was state clean now → PrintsRecording report bytes o e clean o2 e2
   recorded report bytes attr was now state clean o o2 e e2 s none same new a b f g p =
       let there = answers_are bytes attr state s in (
-        attr,
-        s.attribute,
-        sym (ap (λ (x : Order). stream_end x state.source.left) s.order ∙ ap (λ (xs : List ℕ). stream_end little xs) s.left) ∙ p.end,
-        subst (λ (t : List ℕ). Appends o o2 t) (lines_are report bytes attr was state s none same)
-            (subst (λ (y : Option (List ℕ)). Appends o y (waiting out err was ++ printed_answers was.report (answers_left state))) b
-            (subst (λ (x : Option (List ℕ)). Appends x (out now.output) (waiting out err was ++ printed_answers was.report (answers_left state))) a p.lines)),
+        (
+          attr,
+          s.attribute,
+          sym (ap (λ (x : Order). stream_end x state.source.left) s.order ∙ ap (λ (xs : List ℕ). stream_end little xs) s.left) ∙ p.end,
+          subst (λ (t : List ℕ). Appends o o2 t) (lines_are report bytes attr was state s none same)
+              (subst (λ (y : Option (List ℕ)). Appends o y (waiting out err was ++ printed_answers was.report (answers_left state))) b
+              (subst (λ (x : Option (List ℕ)). Appends x (out now.output) (waiting out err was ++ printed_answers was.report (answers_left state))) a p.lines)),
+          p.clean ∙ ap (λ (k : Bool). k && all_clean (answers_left state)) new ∙ ap (λ (xs : List Answered). all_clean xs) there,
+        ),
         subst (λ (xs : List Answered). TellsErrors e e2 xs) there
             (subst (λ (y : Option (List ℕ)). TellsErrors e y (answers_left state)) g
             (subst (λ (x : Option (List ℕ)). TellsErrors x (err now.errors) (answers_left state)) f p.told)),
-        p.clean ∙ ap (λ (k : Bool). k && all_clean (answers_left state)) new ∙ ap (λ (xs : List Answered). all_clean xs) there,
       )
 
   -- a part of it

@@ -138,13 +138,19 @@ recording_answers bytes = elim (attribute_in little bytes) [
   | Err e ↦ []
 ]
 
--- A recording was printed: it begins with an attribute and ends after a frame, its lines and its
--- errors were written, and it is known whether no frame was refused.
-abbrev pub PrintsRecording : Report → (bytes : List ℕ) → (output errors : Option (List ℕ)) →
-    Bool → (output_after errors_after : Option (List ℕ)) → Type 0
-PrintsRecording report bytes output errors clean output_after errors_after =
+-- The lines of a recording were printed: it begins with an attribute and ends after a frame, its
+-- lines were written, and it is known whether no frame was refused.
+abbrev pub PrintsLines : Report → (bytes : List ℕ) → (output : Option (List ℕ)) → Bool →
+    (output_after : Option (List ℕ)) → Type 0
+PrintsLines report bytes output clean output_after =
     (attr : perf_event_attr) × (attribute_in little bytes ≡ Ok attr)
     × (stream_end little (drop attr.size bytes) ≡ done)
     × Appends output output_after (printed_answers report (recording_answers bytes))
-    × TellsErrors errors errors_after (recording_answers bytes)
     × (clean ≡ all_clean (recording_answers bytes))
+
+-- A recording was printed: its lines were, and its errors were written.
+abbrev pub PrintsRecording : Report → (bytes : List ℕ) → (output errors : Option (List ℕ)) →
+    Bool → (output_after errors_after : Option (List ℕ)) → Type 0
+PrintsRecording report bytes output errors clean output_after errors_after =
+    PrintsLines report bytes output clean output_after
+    × TellsErrors errors errors_after (recording_answers bytes)

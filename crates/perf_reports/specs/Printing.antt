@@ -3,10 +3,14 @@ use Rattle.std.specs.Prelude.{◌≡◌, ℕ, Bool, true, false, List, [], ◌++
 use Rattle.std.specs.Prelude.{Result, Ok, Err}
 use Rattle.std.specs.List.{flat_map}
 use Rattle.std.specs.Io.KnownBytes.{Appends}
+use Rattle.anyhow.specs.Error.{HasMessage, IsMadeOf}
+use Rattle.anyhow.specs.declared.error.Error.{Error}
 use Rattle.perf_base.specs.Errors.{error_text}
 use Rattle.perf_base.specs.declared.sys.perf_event_header.{perf_event_header}
 use Rattle.perf_base.specs.declared.error.ErrorKind.{ErrorKind}
 use Rattle.perf_base.specs.declared.error.ParseError.{ParseError}
+use Rattle.perf_parser.specs.declared.runs.RunEnd.{RunEnd}
+use Rattle.perf_parser.specs.declared.runs.RunEnd.TheVariants as end
 use Rattle.perf_records.specs.Records.{RecordValue, record_value, sample_is, sample_value}
 use Rattle.perf_reports.specs.declared.printing.Found.{Found}
 use Rattle.perf_reports.specs.declared.printing.Found.TheVariants as found
@@ -72,3 +76,10 @@ abbrev pub is_memory : Stopped → Bool
 is_memory (Memory e) = true
 is_memory Frame = true
 is_memory (Output e) = false
+
+-- the error if no frames follow the last one that a run read, and the recording does not end there
+abbrev pub StopsReading : RunEnd → Error → Type 0
+StopsReading end.Limit why = ⊥
+StopsReading end.Done why = ⊥
+StopsReading end.CutHeader why = HasMessage (Some (codes "the input ends inside a header")) why
+StopsReading (end.Fault e) why = IsMadeOf (Some (error_text e)) why

@@ -1,16 +1,12 @@
 -- The lines that the program prints, without line feeds.
-use Rattle.std.specs.Prelude.{ℕ, false, List, ◌++◌, ◌==◌, if◌then◌else◌, Option, Some, None}
+use Rattle.std.specs.Prelude.{ℕ, List, ◌++◌, ◌==◌, if◌then◌else◌, Option, Some, None}
 use Rattle.std.specs.Prelude.{codes, decimal}
-use Rattle.std.specs.Fmt.{digits}
 use Rattle.std.specs.List.{flat_map}
 use Rattle.perf_sample_types.specs.SampleGetters.{Getters, getters_of}
 use Rattle.perf_records.specs.Records.{RecordValue, sample_is}
+use Rattle.perf_text.specs.Numbers.{hex}
 
 -- ---- words
-
--- a number in hexadecimal
-abbrev pub hex : ℕ → List ℕ
-hex n = codes "0x" ++ digits 16 false n
 
 -- a number that may be absent
 abbrev pub decimal_word : Option ℕ → List ℕ

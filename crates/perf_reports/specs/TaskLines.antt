@@ -1,8 +1,7 @@
 -- The lines that the program prints, without line feeds.
-use Rattle.std.specs.Prelude.{◌≡◌, ◌≤◌, ℕ, zero, suc, false, Bool, not, ◌&&◌, List, [], ◌∷◌, ◌++◌, ◌/◌, ◌%◌, ◌==◌}
+use Rattle.std.specs.Prelude.{◌≡◌, ◌≤◌, ℕ, zero, suc, Bool, not, ◌&&◌, List, [], ◌∷◌, ◌++◌, ◌==◌}
 use Rattle.std.specs.Prelude.{nat_le, if◌then◌else◌, length, take, drop, Option, Some, None, codes, decimal}
 use Rattle.std.specs.Prelude.{bit_and, encode_utf8}
-use Rattle.std.specs.Fmt.{digits}
 use Rattle.std.specs.Int.{is_in_range}
 use Rattle.std.specs.List.{All, flat_map, join_by, join_with_byte}
 use Rattle.std.specs.Str.{chars}
@@ -16,16 +15,13 @@ use Rattle.perf_types.specs.MmapDetail.{DetailValue, inode_is, build_id_is}
 use Rattle.perf_types.specs.Namespaces.{NamespacesValue}
 use Rattle.perf_records.specs.Records.{RecordValue, comm_is, mmap_is, mmap2_is, fork_is, exit_is}
 use Rattle.perf_records.specs.Records.{namespaces_is}
+use Rattle.perf_text.specs.Numbers.{hex, hex_byte}
 
 -- ---- words
 
 -- words with a space, 32, between each two
 abbrev pub join_words : List (List ℕ) → List ℕ
 join_words words = join_with_byte 32 words
-
--- a number in hexadecimal
-abbrev pub hex : ℕ → List ℕ
-hex n = codes "0x" ++ digits 16 false n
 
 -- one letter if a bit is set in a word, and another if it is not
 abbrev pub letter : (word bit : ℕ) (set unset : List ℕ) → List ℕ
@@ -42,10 +38,6 @@ abbrev pub protection : (prot flags : ℕ) → List ℕ
 protection prot flags =
     letter prot 1 (codes "r") (codes "-") ++ (letter prot 2 (codes "w") (codes "-")
     ++ (letter prot 4 (codes "x") (codes "-") ++ letter flags 1 (codes "s") (codes "p")))
-
--- a byte in two hexadecimal digits
-abbrev pub hex_byte : ℕ → List ℕ
-hex_byte byte = digits 16 false (byte / 16) ++ digits 16 false (byte % 16)
 
 -- a file by its device, its inode and its generation
 abbrev pub inode : (maj min ino generation : ℕ) → List ℕ

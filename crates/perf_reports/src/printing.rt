@@ -1,16 +1,18 @@
 //! Lines of a recording: one for each record that a report covers.
 
 ghost use Rattle.std.specs.Prelude.{◌≡◌, ◌≤◌, ◌⊎◌, ◌++◌, ℕ, false, IsTrue, [], take, length, string_bytes};
-ghost use Rattle.std.specs.Prelude.{OnOk, IfOk, IfErr, if◌then◌else◌};
+ghost use Rattle.std.specs.Prelude.{OnOk, IfOk, IfErr, IfSome, if◌then◌else◌};
 ghost use Rattle.std.specs.Io.KnownBytes.{Appends};
+ghost use Rattle.perf_buffers.specs.Prelude.{reader_remaining};
 ghost use Rattle.perf_parser.specs.Prelude.{buffer_of, config_of, state_of};
-ghost use Rattle.perf_reports.specs.FramePrinting.{PrintsAll, PrintsFirst, PrintsRecording, PrintsRun, answers_left, recording_answers};
+ghost use Rattle.perf_reports.specs.FramePrinting.{PrintsAll, PrintsFirst, PrintsLines, PrintsRecording, PrintsRun, answers_left, recording_answers};
 ghost use Rattle.perf_reports.specs.Printing.{found_value, text_of_record, printed_answers, is_memory};
-ghost use Rattle.perf_reports.specs.Printing.{Grows, GrowsWithin};
+ghost use Rattle.perf_reports.specs.Printing.{Grows, GrowsWithin, StopsReading};
 
 use crate::frame_printer::FramePrinter;
 use crate::{samples, tasks};
 use anyhow::{Result, bail};
+use core::mem::replace_with;
 use perf_event_data::endian::{Endian, Little};
 use perf_event_data::parse::{ParseBuf, ParseConfig, ParseError, Parser};
 use perf_event_data::{Record, RunEnd, Sample, each_frame};
@@ -220,16 +222,41 @@ impl Lines {
 /// Lines are written together, up to 4,096 bytes of whole lines at a time, and a longer line by
 /// itself. All lines are written after each 256 frames, before the next frame is read, before an
 /// error is printed, and before this returns, unless the output fails.
+///
+/// If the reader's bytes are known, what was written to `output` is a prefix of the recording's
+/// lines, and all of them after an `Ok`.
 pub fn print_recording<R: Read + Drop, W: Write, E: Write>(
     alloc: Global,
     input: R,
     output: &mut W,
     errors: &mut E,
     report: Report,
-) -> Result<bool> {
+) -> Result<bool>
+    ensures all { IfSome (R.remaining input) (λ bytes. IfOk result (λ clean.
+        PrintsLines report bytes (W.contents output.old) clean (W.contents output.new))) }
+    ensures part { IfSome (R.remaining input) (λ bytes.
+        GrowsWithin (W.contents output.old) (W.contents output.new)
+        (printed_answers report (recording_answers bytes))) }
+{
     let input = BufReader::new(alloc, input)?;
-    let (clean, _, _) = print_buffer(alloc, input, output, errors, report);
-    clean
+    replace_with(output, (alloc, input, errors, report), print_buffered)
+}
+
+// Prints what a reader reads, and returns the output. So a caller that has only borrowed its output
+// knows what was written there.
+fn print_buffered<R: Read + Drop, W: Write, E: Write + Drop>(
+    output: W,
+    of: (Global, BufReader<R>, E, Report),
+) -> (W, Result<bool>)
+    ensures all { IfSome (reader_remaining R.remaining of.1) (λ bytes. IfOk result.1 (λ clean.
+        PrintsLines of.3 bytes (W.contents output) clean (W.contents result.0))) }
+    ensures part { IfSome (reader_remaining R.remaining of.1) (λ bytes.
+        GrowsWithin (W.contents output) (W.contents result.0)
+        (printed_answers of.3 (recording_answers bytes))) }
+{
+    let (alloc, input, errors, report) = of;
+    let (clean, output, _) = print_buffer(alloc, input, output, errors, report);
+    (output, clean)
 }
 
 /// The same of a recording in any buffer; the outputs are returned too. If the buffer's bytes are
@@ -320,7 +347,8 @@ fn print_frames<'p, B: ParseBuf<'p>, O: Endian, W: Write, E: Write>(
 // Whether frames may follow the last one that a run read. It is an error if the run could not go
 // on, or if the input ends inside a header.
 fn goes_on(end: RunEnd) -> Result<bool>
-    ensures { IfOk result (λ more. end ≡ (if more then RunEnd.Limit else RunEnd.Done)) }
+    ensures more { IfOk result (λ more. end ≡ (if more then RunEnd.Limit else RunEnd.Done)) }
+    ensures why { IfErr result (λ why. StopsReading end why) }
 {
     match end {
         RunEnd::Limit => Ok(true),

@@ -4,6 +4,7 @@ ghost use Rattle.std.specs.Prelude.{◌≡◌, ◌+◌, ◌≤◌, ◌++◌, len
 ghost use Rattle.std.specs.Prelude.{string_bytes, Some, None, codes, IfOk, IfSome, IsOk, OnOk, []};
 ghost use Rattle.std.specs.List.{flat_map, join_by};
 ghost use Rattle.perf_records.specs.Records as values;
+ghost use Rattle.perf_text.specs.Numbers.{hex_byte};
 ghost use Rattle.perf_text.specs.Strips.{strip_text, room_of};
 ghost use Rattle.perf_reports.specs.TaskLines as printed;
 
@@ -192,7 +193,7 @@ fn put_inode(strip: &mut Strip, maj: u32, min: u32, ino: u64, generation: u64)
 // Appends bytes in hexadecimal, two digits each.
 fn push_digits(text: &mut String, strip: &mut Strip, bytes: &[u8]) -> Result<(), AllocError>
     ensures { OnOk result (string_bytes text.new
-        ≡ string_bytes text.old ++ flat_map printed.hex_byte bytes.now) }
+        ≡ string_bytes text.old ++ flat_map hex_byte bytes.now) }
 {
     for some in bytes.chunks(BYTES) {
         strip.clear();

@@ -24,6 +24,14 @@ const SAMPLE: &[u8] =
     b"\x09\0\0\0\0\0\x40\0\0\x10\0\0\0\0\0\0\x05\0\0\0\x07\0\0\0\x09\0\0\0\0\0\0\0\
 \x02\0\0\0\0\0\0\0\0\x10\0\0\0\0\0\0\0\x20\0\0\0\0\0\0\x04\0\0\0abcd";
 
+// The thread 7 of the process 5 has no name.
+const UNNAMED: &[u8] = b"\x03\0\0\0\0\0\x18\0\x05\0\0\0\x07\0\0\0\0\0\0\0\0\0\0\0";
+
+// It mapped what has no name, and a build id of no bytes.
+const UNNAMED_MAPPING: &[u8] = b"\x0A\0\0\0\0\x40\x50\0\x05\0\0\0\x07\0\0\0\
+\0\x10\0\0\0\0\0\0\0\x20\0\0\0\0\0\0\0\0\0\0\0\0\0\0\0\0\0\0\0\0\0\0\0\0\0\0\0\0\0\0\0\0\0\0\0\0\0\0\
+\x05\0\0\0\x02\0\0\0\0\0\0\0\0\0\0\0";
+
 // A header whose size is below its own.
 const SMALL: &[u8] = b"\x03\0\0\0\0\0\x07\0";
 
@@ -63,6 +71,22 @@ fn a_flat_frame_has_numbers_and_spans(rt: HostRuntime) {
          Some(([3, 8192, 24], [0, 1, 0], [0, 0, 0], [0, 0])), \
          Some(([3, 0, 7], [0, 2, 1], [0, 0, 0], [0, 0])), None)",
     );
+}
+
+// Where the first two byte strings of a record are.
+fn string_places(alloc: Global, bytes: &[u8]) -> Option<[u32; 4]> {
+    let frame = read(alloc, &ParseConfig::<Little>::default(), bytes)?;
+    let [first, second, ..] = frame.spans;
+    Some([first.at, first.len, second.at, second.len])
+}
+
+#[test]
+fn a_string_of_no_bytes_has_its_place(rt: HostRuntime) {
+    let places = (
+        string_places(rt.alloc(), UNNAMED),
+        string_places(rt.alloc(), UNNAMED_MAPPING),
+    );
+    check_debug(&rt, places, "(Some([16, 0, 0, 0]), Some([72, 0, 44, 0]))");
 }
 
 // Which fields a sample has, its task and its time, its address, and where its lists and raw bytes are.

@@ -31,6 +31,31 @@ const TOO_SMALL: &[u8] = b"invalid record: header size was too small to be valid
 const CHAINS: &[u8] =
     b"\0\0\0\0\x40\0\0\0\0\0\0\0\0\0\0\0\0\0\0\0\0\0\0\0\x20\0\0\0\0\0\0\0\0\0\0\0\0\0\0\0\0\0\0\0\0\0\0\0\0\0\0\0\0\0\0\0\0\0\0\0\0\0\0\0";
 
+// Attributes of 64 bytes: of stacks; of the thread and a sample id; of a counter with a bit that is
+// not known; of groups of counters.
+const STACKS: &[u8] =
+    b"\0\0\0\0\x40\0\0\0\0\0\0\0\0\0\0\0\0\0\0\0\0\0\0\0\0\x20\0\0\0\0\0\0\0\0\0\0\0\0\0\0\0\0\0\
+    \0\0\0\0\0\0\0\0\0\0\0\0\0\0\0\0\0\0\0\0\0";
+
+const THREADS: &[u8] =
+    b"\0\0\0\0\x40\0\0\0\0\0\0\0\0\0\0\0\0\0\0\0\0\0\0\0\x02\0\0\0\0\0\0\0\0\0\0\0\0\0\0\0\0\0\
+    \x04\0\0\0\0\0\0\0\0\0\0\0\0\0\0\0\0\0\0\0\0\0";
+
+const UNKNOWN_COUNTERS: &[u8] =
+    b"\0\0\0\0\x40\0\0\0\0\0\0\0\0\0\0\0\0\0\0\0\0\0\0\0\x10\0\0\0\0\0\0\0\x20\0\0\0\0\0\0\0\0\0\
+    \0\0\0\0\0\0\0\0\0\0\0\0\0\0\0\0\0\0\0\0\0\0";
+
+const GROUPS: &[u8] =
+    b"\0\0\0\0\x40\0\0\0\0\0\0\0\0\0\0\0\0\0\0\0\0\0\0\0\x10\0\0\0\0\0\0\0\x0C\0\0\0\0\0\0\0\0\0\
+    \0\0\0\0\0\0\0\0\0\0\0\0\0\0\0\0\0\0\0\0\0\0";
+
+// A LOST record of one number, an MMAP2 record whose build id has 21 bytes, and a sample of a stack
+// of eight bytes, of which nine are used.
+const LOST_MMAP2_STACK: &[u8] =
+    b"\x02\0\0\0\0\0\x10\0\x01\0\0\0\0\0\0\0\x0A\0\0\0\0\x40\x48\0\x01\0\0\0\x02\0\0\0\0\x10\0\0\
+    \0\0\0\0\x20\0\0\0\0\0\0\0\0\0\0\0\0\0\0\0\x15\0\0\0\0\0\0\0\0\0\0\0\0\0\0\0\0\0\0\0\0\0\0\
+    \0\x05\0\0\0\x02\0\0\0\x09\0\0\0\0\0\x20\0\x08\0\0\0\0\0\0\0abcdefgh\x09\0\0\0\0\0\0\0";
+
 // Marks a byte in a log.
 fn note(log: &Cell<u64>, mark: u64, byte: u8) {
     let digest = log.get().rotate_left(7).wrapping_mul(mark);
@@ -164,7 +189,7 @@ struct Printed<'a> {
     end: &'a str,
 }
 
-const PRINTED: [Printed; 10] = [
+const PRINTED: [Printed; 14] = [
     Printed {
         name: "a record about a task has a line",
         report: Report::Tasks,
@@ -193,6 +218,54 @@ const PRINTED: [Printed; 10] = [
         fault: None,
         output: b"comm 1 2 sh\n",
         errors: TOO_SMALL,
+        end: "refused",
+    },
+    Printed {
+        name: "each refused record has its reason",
+        report: Report::Samples,
+        attr: STACKS,
+        after: LOST_MMAP2_STACK,
+        fault: None,
+        output: b"",
+        errors: b"unexpected EOF during parsing\n\
+            invalid record: build_id had invalid length\n\
+            invalid record: stack dyn_size was greater than the record size\n",
+        end: "refused",
+    },
+    Printed {
+        name: "also one that is too short for its sample id",
+        report: Report::Samples,
+        attr: THREADS,
+        after: b"\x03\0\0\0\0\0\x0C\0\x01\0\0\0",
+        fault: None,
+        output: b"",
+        errors: b"invalid record: config has sample_id_all bit set but record does not have enough \
+            data to store the sample_id\n",
+        end: "refused",
+    },
+    Printed {
+        name: "a sample and a read of a counter",
+        report: Report::Samples,
+        attr: UNKNOWN_COUNTERS,
+        after: b"\x09\0\0\0\0\0\x10\0\x01\0\0\0\0\0\0\0\x08\0\0\0\0\0\x18\0\x01\0\0\0\x02\0\0\0\x03\0\0\0\0\
+            \0\0\0",
+        fault: None,
+        output: b"",
+        errors: b"unsupported config: read_format contains unsupported flags\n\
+            unsupported config: read_format contains unsupported flags\n",
+        end: "refused",
+    },
+    Printed {
+        name: "a group that is too large, and a read of one counter where there are groups",
+        report: Report::Samples,
+        attr: GROUPS,
+        after: b"\x09\0\0\0\0\0\x10\0\0\0\0\0\0\0\0\x80\x08\0\0\0\0\0\x18\0\x01\0\0\0\x02\0\0\0\x03\0\0\0\0\
+            \0\0\0",
+        fault: None,
+        output: b"",
+        errors: b"invalid record: number of elements in group read was too large for data type\n\
+            unsupported config: attempted to parse a SingleRead with a config that has GROUP set in \
+            read_format\n",
         end: "refused",
     },
     Printed {

@@ -68,7 +68,7 @@ returns-then-not-branch-clause-all g c = λ told.
     let mid : ReaderState = state_of g.B.ParseBuf.source g.O.Endian.order c.loop.parser in
     let has = i.printed told in
     let left = (g.B.ParseBuf.source c.print_frames.new.parser.reader.input.buf).left in
-    let is : c.in-Ok.end ≡ end.Done = is_done c.in_ok-goes_on.field-0 c.in-Ok.end c.in_ok-goes_on.ensures c.if-not-branch.true in
+    let is : c.in-Ok.end ≡ end.Done = is_done c.in_ok-goes_on.field-0 c.in-Ok.end c.in_ok-goes_on.ensures.more c.if-not-branch.true in
     let run = subst (λ (e : RunEnd). PrintsRun out err c.loop.printer mid BATCH e left c.print_frames.new.printer) is (c.in-Ok.ensures.sent (i.told told)) in
     has_all out err c.args.printer.now c.loop.printer c.print_frames.new.printer old mid has.0 left BATCH c.is_clean.result
     (ap (λ k. configuration_of k) i.config) (ap (λ k. g.O.Endian.order (endian_of k)) i.config) has.1 run c.in-Ok.ensures.none c.is_clean.ensures
@@ -96,7 +96,7 @@ loop-preserved g c = record {
       let mid : ReaderState = state_of g.B.ParseBuf.source g.O.Endian.order c.loop.parser in
       let has = i.printed told in
       let left = (g.B.ParseBuf.source c.print_frames.new.parser.reader.input.buf).left in
-      let is : c.in-Ok.end ≡ end.Limit = is_limit c.in_ok-goes_on.field-0 c.in-Ok.end c.in_ok-goes_on.ensures c.if-not-branch.false in
+      let is : c.in-Ok.end ≡ end.Limit = is_limit c.in_ok-goes_on.field-0 c.in-Ok.end c.in_ok-goes_on.ensures.more c.if-not-branch.false in
       let run = subst (λ (e : RunEnd). PrintsRun out err c.loop.printer mid BATCH e left c.print_frames.new.printer) is (c.in-Ok.ensures.sent (i.told told)) in (
         has.0 + run.0,
         has_limit out err c.args.printer.now c.loop.printer c.print_frames.new.printer old mid has.0 left BATCH

@@ -2,7 +2,7 @@ use Rattle.std.proofs.Common.{◌≡◌, ◌++◌, ◌∙◌, ℕ, List, [], ◌
 use Rattle.std.specs.List.{flat_map}
 use Rattle.std.specs.Slice.Iter.{chunks_rest, chunks_size}
 use Rattle.std.proofs.lemmas.Grind.{flat_map-append}
-use Rattle.perf_reports.specs.TaskLines.{hex_byte}
+use Rattle.perf_text.specs.Numbers.{hex_byte}
 use Rattle.perf_reports.proofs.tasks.push_digits.Goals as goal
 
 nothing : (xs : List ℕ) → length xs ≡ 0 → xs ≡ []

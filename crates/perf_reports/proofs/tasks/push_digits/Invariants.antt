@@ -1,7 +1,7 @@
 use Rattle.std.proofs.Common.{◌≡◌, ◌++◌, string_bytes}
 use Rattle.std.specs.List.{flat_map}
 use Rattle.std.specs.Slice.Iter.{chunks_rest, chunks_size}
-use Rattle.perf_reports.specs.TaskLines.{hex_byte}
+use Rattle.perf_text.specs.Numbers.{hex_byte}
 use Rattle.perf_reports.proofs.tasks.push_digits.Given as goal
 
 abbrev pub invariant-loop-some : goal.invariant-loop-some
