@@ -5,4 +5,5 @@ pub mod Contents
 pub mod Samples
 pub mod Calls
 pub mod Moments
+pub mod Filters
 pub mod Steps
