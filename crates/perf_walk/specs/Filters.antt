@@ -1,7 +1,9 @@
 -- Which samples count.
-use Rattle.std.specs.Prelude.{◌≡◌, ℕ, ◌-◌, ◌^◌, ◌==◌, ◌&&◌, ◌||◌, true, Bool, List, ◌++◌, bytes_eq, codes, decimal, length, nat_le, Option, Some, None, if◌then◌else◌}
+use Rattle.std.specs.Prelude.{◌≡◌, ℕ, ◌-◌, ◌^◌, ◌==◌, ◌&&◌, ◌||◌, true, false, Bool, List, ◌++◌, bytes_eq, codes, decimal, length, nat_le, Option, Some, None, if◌then◌else◌}
 use Rattle.std.specs.Borrow.{Bor}
 use Rattle.std.specs.List.{list_any}
+use Rattle.perf_base.specs.Header.{header_of}
+use Rattle.perf_base.specs.Order.{Order}
 use Rattle.perf_history.specs.Histories.{name_of}
 use Rattle.perf_history.specs.declared.names.Name.{Name}
 use Rattle.perf_history.specs.declared.names.Name.TheVariants.{Given, Number, Swapper}
@@ -9,7 +11,7 @@ use Rattle.perf_flat.specs.Samples.{sample_present}
 use Rattle.perf_sample_types.specs.Sample.{SampleValue}
 use Rattle.perf_words.specs.Bits.{has_bit}
 use Rattle.perf_walk.specs.Moments.{Moment}
-use Rattle.perf_walk.specs.Samples.{sample_view}
+use Rattle.perf_walk.specs.Samples.{sample_of, sample_view}
 use Rattle.perf_walk.specs.declared.filtering.Filter.{Filter}
 use Rattle.perf_walk.specs.declared.sampling.Sample.{Sample}
 
@@ -30,6 +32,10 @@ is_among names name = list_any (λ (one : Bor (List ℕ)). bytes_eq one.now name
 -- whether the event has the name that counts, if there is one
 abbrev pub takes_event : Filter → (name : List ℕ) → Bool
 takes_event f name = elim f.event [ Some wanted ↦ bytes_eq wanted.now name | None ↦ true ]
+
+-- whether one of the names of events counts
+abbrev pub takes_any : Filter → (names : List (List ℕ)) → Bool
+takes_any f names = list_any (takes_event f) names
 
 -- whether the process of a sample with these fields is one of those that count, if there are any
 abbrev pub takes_pid : Filter → (fields : ℕ) → Sample → Bool
@@ -63,6 +69,10 @@ takes_sample f fields s name = takes_numbers f fields s && takes_comm f fields n
 -- whether the sample in a frame counts by what is known then
 abbrev pub takes_at : Filter → Moment → (misc : ℕ) → SampleValue → Bool
 takes_at f m misc s = takes_sample f (sample_present m.config) (sample_view misc s) (name_of m.known (sample_view misc s).tid)
+
+-- whether a frame of an event with this name contains a sample that counts
+abbrev pub counts : Filter → (event : List ℕ) → Order → Moment → Bool
+counts f event o m = elim (sample_of m.config o m.frame) [ Some s ↦ takes_event f event && takes_at f m (header_of o m.frame).misc s | None ↦ false ]
 
 -- each sample of each event counts
 abbrev pub TakesAll : Filter → Type 0
