@@ -71,7 +71,7 @@ impl<'a> Folder<'a> {
 
     // No lines yet.
     fn new(alloc: Global, how: Choice<'a>, names: Vec<String>) -> Folder<'a>
-        ensures how { result.how ≡ how }
+        ensures how { result.how ≡ how.entry }
         ensures names { result.names ≡ names }
         ensures lines { folded_lines result.folded ≡ [] }
     {
@@ -212,7 +212,7 @@ impl<'a> Folder<'a> {
 /// address of the instruction is the one frame.
 /// A sample of a group counts once, for the event of its frame.
 pub fn fold(alloc: Global, recording: &Recording<'_>, how: Choice<'_>) -> Result<Folded, AllocError>
-    ensures { IfOk result (λ folded. folds.IsFoldOf how (own_names recording.now.events.items)
+    ensures { IfOk result (λ folded. folds.IsFoldOf how.entry (own_names recording.now.events.items)
         (view recording.now) (folded_lines folded)) }
 {
     let entries = recording.in_order(alloc)?;
@@ -226,7 +226,7 @@ fn fold_entries(
     how: Choice<'_>,
     entries: &[Entry],
 ) -> Result<Folded, AllocError>
-    ensures { IfOk result (λ folded. folded_lines folded ≡ folds.add_moments how
+    ensures { IfOk result (λ folded. folded_lines folded ≡ folds.add_moments how.entry
         (own_names recording.now.events.items) (order_of (view recording.now).order) []
         (moments (view recording.now) entries.now [])) }
 {

@@ -24,7 +24,7 @@ pub fn write_fold<W: Write>(
     form: Form,
     writer: &mut W,
 ) -> Result<Outcome, FoldError>
-    ensures { written.WritesFold how form bytes.now result
+    ensures { written.WritesFold how.entry form bytes.now result
         (W.contents writer.old) (W.contents writer.new) }
 {
     let recording = Recording::open(alloc, bytes)?;

@@ -83,6 +83,7 @@ fn apply<'p>(history: &mut History<'p>, change: Option<Change<'p>>) -> Result<()
 }
 
 impl<'a, 'p> Walk<'a, 'p> {
+    ghost use Rattle.perf_file.specs.Opened.{File};
     ghost use Rattle.perf_file.specs.Views.{view};
     ghost use Rattle.perf_history.specs.Histories.{name_of, place_of};
     ghost use Rattle.perf_history.specs.declared.changes.Change.{Change};
@@ -93,6 +94,7 @@ impl<'a, 'p> Walk<'a, 'p> {
     ghost use Rattle.perf_walk.specs.Plain.{plain_name, plain_place};
     ghost use Rattle.perf_walk.specs.Samples.{sample_of, sample_view};
     ghost use Rattle.perf_walk.specs.Steps.{IsFrameOf, Reads, Steps};
+    ghost use Rattle.std.specs.Prelude.{Some};
 
     /// A walk before its first step. Nothing is known then.
     pub fn new(alloc: Global, recording: &'a Recording<'p>) -> Walk<'a, 'p>
@@ -181,10 +183,9 @@ impl<'a, 'p> Walk<'a, 'p> {
     /// Whether a filter takes the sample of the frame that was found last, by what is known then,
     /// whatever the event of the frame is.
     pub fn takes(&self, filter: &Filter<'_>, sample: &Sample) -> bool
-        ensures { (m : Moment) (s : SampleValue) (found : Found) →
-            IsFrameOf (view self.now.recording.now) m found self.now.frame →
-            IsPast self.now.history m.known →
-            sample_of m.config (order_of (view self.now.recording.now).order) m.frame ≡ Some s →
+        ensures { (f : File) (m : Moment) (s : SampleValue) (found : Found) →
+            IsFrameOf f m found self.now.frame → IsPast self.now.history m.known →
+            sample_of m.config (order_of f.order) m.frame ≡ Some s →
             sample.now ≡ sample_view self.now.frame.misc s →
             result ≡ takes_at filter.now m self.now.frame.misc s }
     {

@@ -6,17 +6,28 @@ use perf_fold::{Choice, FoldError, Weight, fold, status_after, write_fold};
 use perf_folded::Form;
 use perf_lines::outcome::Outcome;
 use perf_stacks::Frames;
+use perf_walk::Filter;
 use std::alloc::Global;
 use std::process::Abort;
+
+const ALL: Filter = Filter {
+    event: None,
+    pids: &[],
+    comms: &[],
+    first: 0,
+    last: None,
+};
 
 const OFFSETS: Choice = Choice {
     frames: Frames::Offsets,
     weight: Weight::Samples,
+    filter: ALL,
 };
 
 const PERIODS: Choice = Choice {
     frames: Frames::Files,
     weight: Weight::Period,
+    filter: ALL,
 };
 
 // What is written of the recording, or of its first bytes.
