@@ -129,7 +129,7 @@ chosen events "comm == \"sh\" && pid == 4587 && time >= 1759.724 && event == \"$
     --comm sh --pid 4587 --time 1759.724, --event $faults
 chosen events 1 --time ,
 chosen events 0 --pid 9
-chosen machine 'comm == "swapper"' --comm swapper
+chosen machine 'comm == "swapper"' --comms swapper
 chosen machine 'pid == 4' --pid 4
 chosen group 'time >= 925.574 && time <= 925.578' --time 925.574,925.578
 chosen group 'event == "page-faults"' --event page-faults

@@ -19,6 +19,7 @@ pub fn filter_words<'a>(alloc: Global, command: Command<'a>) -> Result<Command<'
         .help("Only samples of these processes");
     let comm = Arg::new(alloc, "comm")
         .long("comm")
+        .alias("comms")?
         .value_name("NAME,..")
         .value_delimiter(',')
         .help("Only samples of threads that have one of these names then");

@@ -11,7 +11,8 @@
 //! `perf_data fold FILE` prints the stacks of samples, and how many there are of each, with
 //! `--weight period` the sum of their periods, and with `--frames file` without offsets.
 //! `perf_data flame FILE` draws a flame graph of them, with `--inverted` from the innermost frames on.
-//! `fold --merge FILE ..` adds up such lines, and `flame --folded FILE` draws them.
+//! `fold --merge FILE ..` adds up such lines, and `flame --folded FILE` draws them. For `script`, `fold` and
+//! `flame`, `--event`, `--pid`, `--comm` and `--time` choose samples.
 //!
 //! A FILE of `-` is standard input. The whole file is read into memory, and all of its text is made
 //! before any is written; of a large file a line on standard error says so, if that is a terminal.
