@@ -1,7 +1,7 @@
 //! The words that choose samples.
 
 use clap::{Arg, ArgMatches, Command, value_parser};
-use perf_walk::Filter;
+use perf_walk::{Filter, nanoseconds};
 use std::alloc::{AllocError, Global};
 use std::io;
 
@@ -104,7 +104,7 @@ fn times_of(word: Option<&str>) -> Option<(u64, Option<u64>)> {
         return Some((0, None));
     };
     let (from, to) = word.split_once(',')?;
-    let (first, last) = (time_of(from)?, time_of(to)?);
+    let (first, last) = (nanoseconds(from)?, nanoseconds(to)?);
     if last == 0 {
         Some((first, None))
     } else if first <= last {
@@ -112,25 +112,4 @@ fn times_of(word: Option<&str>) -> Option<(u64, Option<u64>)> {
     } else {
         None
     }
-}
-
-// A time in nanoseconds, by its text in seconds: digits, and after a point at most nine more.
-fn time_of(text: &str) -> Option<u64> {
-    let (seconds, fraction) = text.split_once('.').unwrap_or((text, ""));
-    let zeros = 9usize.checked_sub(fraction.len())?;
-    let mut time = with_digits(0, seconds)?;
-    time = with_digits(time, fraction)?;
-    with_digits(time, &"000000000"[..zeros])
-}
-
-// A number and digits after it.
-fn with_digits(number: u64, digits: &str) -> Option<u64> {
-    let mut number = number;
-    for byte in digits.bytes() {
-        if !byte.is_ascii_digit() {
-            return None;
-        }
-        number = number.checked_mul(10)?.checked_add(u64::from(byte - b'0'))?;
-    }
-    Some(number)
 }

@@ -7,3 +7,4 @@ pub mod Chains
 pub mod Walked
 pub mod Fields
 pub mod Filtered
+pub mod Digits

@@ -6,4 +6,5 @@ pub mod Samples
 pub mod Calls
 pub mod Moments
 pub mod Filters
+pub mod Times
 pub mod Steps
