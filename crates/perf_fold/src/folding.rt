@@ -140,7 +140,9 @@ impl<'a> Folder<'a> {
             sample.now ≡ sample_view walk.now.frame.misc s →
             result ≡ folds.takes self.now.how (texts_of self.now.names.items) m walk.now.frame.misc s }
     {
-        self.takes_event(found.event) && walk.takes(&self.how.filter, sample)
+        let event = self.takes_event(found.event);
+        let taken = walk.takes(&self.how.filter, sample);
+        event && taken
     }
 
     // Adds a sample, that of a frame that was found, if it counts.
