@@ -307,7 +307,7 @@ printf 'a 18446744073709551615\nb 1' >"$work/damaged"
 tells "$work/damaged: the counts have a sum of 2^64 or more: leave lines out" flame --folded "$work/damaged"
 
 # Other words, and help.
-for words in '' events dump summary other 'events one two' 'summary one two' 'summary --header one' 'dump one two' 'dump --order' 'dump --order size one' 'events --order time one' 'dump --header one' '--all' 'dump --all one' fold flame 'fold --merge' script 'script one two' 'script --all one' 'fold one two' 'flame --folded one two' 'flame --merge one'; do
+for words in '' events dump summary other 'events one two' 'summary one two' 'summary --header one' 'dump one two' 'dump --order' 'dump --order size one' 'events --order time one' 'dump --header one' '--all' 'dump --all one' fold flame 'fold --merge' script 'script one two' 'script --all one' 'fold one two' 'flame --folded one two' 'flame --merge one' 'fold --merge --pid 1 one' 'flame --folded --event one two'; do
     # shellcheck disable=SC2086  # these are several words
     check 2 /dev/null $words
 done

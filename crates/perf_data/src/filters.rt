@@ -5,7 +5,7 @@ use perf_walk::{Filter, nanoseconds};
 use std::alloc::{AllocError, Global};
 use std::io;
 
-/// Adds the words that choose samples.
+/// Adds the words that choose samples, which lines of stacks no longer have.
 pub fn filter_words<'a>(alloc: Global, command: Command<'a>) -> Result<Command<'a>, AllocError> {
     let event = Arg::new(alloc, "event")
         .long("event")
@@ -27,7 +27,11 @@ pub fn filter_words<'a>(alloc: Global, command: Command<'a>) -> Result<Command<'
         .long("time")
         .value_name("FROM,TO")
         .help("Only samples from one time to another, in seconds; either may be absent");
-    command.arg(event)?.arg(pid)?.arg(comm)?.arg(time)
+    let mut command = command;
+    for word in [event, pid, comm, time] {
+        command = command.arg(word.conflicts_with("merge")?.conflicts_with("folded")?)?;
+    }
+    Ok(command)
 }
 
 /// What the words choose.
