@@ -94,6 +94,54 @@ check 0 "$examples/events.script" script "$examples/big-endian.data"
     echo "FAILED: script of killed.data"
 }
 tried=$((tried + 1))
+# Samples that are chosen, as awk chooses them in what perf prints of all, and as `perf script` does by its words for
+# processes, names and times; their stacks are those of that text: chosen NAME CONDITION WORD ..
+chosen() {
+    name=$1 condition=$2
+    shift 2
+    awk "/^[^\t]/ {
+        at = match(\$0, /[0-9]+\/[0-9]+ /)
+        comm = substr(\$0, 1, at - 1)
+        gsub(/^ +| +\$/, \"\", comm)
+        pid = substr(\$0, at) + 0
+        match(\$0, /[0-9]+\.[0-9]+: /)
+        time = substr(\$0, RSTART, RLENGTH - 2) + 0
+        event = substr(\$0, RSTART + RLENGTH)
+        sub(/^ *[0-9]+ +/, \"\", event)
+        sub(/: .*/, \"\", event)
+        on = $condition
+    }
+    on" "$examples/$name.script" >"$work/output"
+    check 0 "$work/output" script "$@" "$examples/$name.data"
+    if [ $name = events ]; then
+        awk -v files= -f "$examples/fold.awk" "$work/output" | LC_ALL=C sort >"$work/chosen"
+        check 0 "$work/chosen" fold "$@" "$file"
+    fi
+}
+faults=page-faults/period=7,call-graph=fp/
+chosen events 'pid == 4583 || pid == 4587' --pid 4583,4587
+chosen events 'comm == "ls" || comm == "sleep"' --comm ls,sleep
+chosen events 'time >= 1759.722011944 && time <= 1759.725336359' --time 1759.722011944,1759.725336359
+chosen events 'time >= 1759.7254' --time 1759.7254,
+chosen events 'time <= 1759.722011944' --time=,1759.722011944
+chosen events "event == \"$faults\"" --event $faults
+chosen events "comm == \"sh\" && pid == 4587 && time >= 1759.724 && event == \"$faults\"" \
+    --comm sh --pid 4587 --time 1759.724, --event $faults
+chosen events 1 --time ,
+chosen events 0 --pid 9
+chosen machine 'comm == "swapper"' --comms swapper
+chosen machine 'pid == 4' --pid 4
+chosen group 'time >= 925.574 && time <= 925.578' --time 925.574,925.578
+chosen group 'event == "page-faults"' --event page-faults
+"${program[@]}" fold --pid 4583 "$file" >"$work/chosen"
+"${program[@]}" flame --folded "$work/chosen" >"$work/output"
+check 0 "$work/output" flame --pid 4583 "$file"
+for words in '--event cycles' '--time 5' '--time 2,1' '--time 1,x' '--time 1.0123456789,' '--time -1,' '--time 18446744074,' '--pid ls' '--pid -1'; do
+    for command in script fold flame; do
+        # shellcheck disable=SC2086  # these are several words
+        check 2 /dev/null $command $words "$file"
+    done
+done
 # A sample of a guest has no line, as for perf: the third is made one by its misc.
 cp "$examples/machine.data" "$work/damaged"
 at=$(grep ' Sample ' "$examples/machine.time" | sed -n 3p | cut -d ' ' -f 2)
@@ -259,7 +307,7 @@ printf 'a 18446744073709551615\nb 1' >"$work/damaged"
 tells "$work/damaged: the counts have a sum of 2^64 or more: leave lines out" flame --folded "$work/damaged"
 
 # Other words, and help.
-for words in '' events dump summary other 'events one two' 'summary one two' 'summary --header one' 'dump one two' 'dump --order' 'dump --order size one' 'events --order time one' 'dump --header one' '--all' 'dump --all one' fold flame 'fold --merge' script 'script one two' 'script --all one' 'fold one two' 'flame --folded one two' 'flame --merge one'; do
+for words in '' events dump summary other 'events one two' 'summary one two' 'summary --header one' 'dump one two' 'dump --order' 'dump --order size one' 'events --order time one' 'dump --header one' '--all' 'dump --all one' fold flame 'fold --merge' script 'script one two' 'script --all one' 'fold one two' 'flame --folded one two' 'flame --merge one' 'fold --merge --pid 1 one' 'flame --folded --event one two'; do
     # shellcheck disable=SC2086  # these are several words
     check 2 /dev/null $words
 done

@@ -1,11 +1,13 @@
 //! The commands over folded stacks.
 
+use crate::filters::{Chosen, filter_words, refuse_times};
 use crate::{bytes_of, file_word};
 use clap::{Arg, ArgAction, ArgMatches, Command};
 use perf_fold::{Choice, Weight, write_fold};
 use perf_folded::{Form, TextError, status_after, write_sum};
 use perf_lines::outcome::Outcome;
 use perf_stacks::Frames;
+use perf_walk::Filter;
 use std::alloc::{AllocError, Global};
 use std::io;
 
@@ -35,7 +37,7 @@ fn stack_words<'a>(alloc: Global, command: Command<'a>) -> Result<Command<'a>, A
         .value_parser(["samples", "period"].as_slice())
         .default_value("samples")
         .help("What is counted: samples, or their periods");
-    command.arg(frames)?.arg(weight)
+    filter_words(alloc, command.arg(frames)?.arg(weight)?)
 }
 
 /// The words of `flame`.
@@ -80,7 +82,7 @@ pub fn flame(rt: &HostRuntime, words: &ArgMatches<'_>) -> io::Result<u8> {
 }
 
 // How a recording is folded, by the words.
-fn choice(words: &ArgMatches<'_>) -> Choice {
+fn choice<'a>(words: &ArgMatches<'_>, filter: Filter<'a>) -> Choice<'a> {
     Choice {
         frames: match words.get_str("frames") {
             Some("file") => Frames::Files,
@@ -90,6 +92,7 @@ fn choice(words: &ArgMatches<'_>) -> Choice {
             Some("period") => Weight::Period,
             _ => Weight::Samples,
         },
+        filter,
     }
 }
 
@@ -99,9 +102,13 @@ fn print_fold(rt: &HostRuntime, words: &ArgMatches<'_>, form: Form) -> io::Resul
         eprintln!(rt; "perf_data: more than one file, which only `--merge` adds up")?;
         return Ok(2);
     };
+    let Some(chosen) = Chosen::of(rt.alloc(), words)? else {
+        return refuse_times(rt);
+    };
     let bytes = bytes_of(rt, path)?;
+    let how = choice(words, chosen.filter());
     let mut output = rt.stdout();
-    let ended = write_fold(rt.alloc(), &bytes, choice(words), form, &mut output);
+    let ended = write_fold(rt.alloc(), &bytes, how, form, &mut output);
     match &ended {
         Err(error) => eprintln!(rt; "perf_data: {path}: {error}")?,
         Ok(Outcome::Stopped) => eprintln!(rt; "perf_data: the output cannot be written")?,

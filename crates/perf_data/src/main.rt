@@ -11,7 +11,8 @@
 //! `perf_data fold FILE` prints the stacks of samples, and how many there are of each, with
 //! `--weight period` the sum of their periods, and with `--frames file` without offsets.
 //! `perf_data flame FILE` draws a flame graph of them, with `--inverted` from the innermost frames on.
-//! `fold --merge FILE ..` adds up such lines, and `flame --folded FILE` draws them.
+//! `fold --merge FILE ..` adds up such lines, and `flame --folded FILE` draws them. For `script`, `fold` and
+//! `flame`, `--event`, `--pid`, `--comm` and `--time` choose samples.
 //!
 //! A FILE of `-` is standard input. The whole file is read into memory, and all of its text is made
 //! before any is written; of a large file a line on standard error says so, if that is a terminal.
@@ -21,13 +22,14 @@
 //! With 2 and 3 the reason is printed on standard error. `--help` prints the words.
 #![tactic(auto)]
 
+mod filters;
 mod folding;
+mod scripting;
 
 use clap::{Arg, ArgAction, ArgMatches, Command};
 use perf_data_text::run::{Show, run, status_after};
 use perf_file::OpenError;
 use perf_lines::outcome::Outcome;
-use perf_script::write_script;
 use std::alloc::{AllocError, Global};
 use std::io::{IsTerminal, Read};
 use std::process::ExitCode;
@@ -93,16 +95,9 @@ fn program<'a>(alloc: Global) -> Result<Command<'a>, AllocError> {
         .subcommand(events)?
         .subcommand(dump)?
         .subcommand(summary)?
-        .subcommand(script_words(alloc)?)?
+        .subcommand(scripting::script_words(alloc)?)?
         .subcommand(folding::fold_words(alloc)?)?
         .subcommand(folding::flame_words(alloc)?)
-}
-
-// The words of `script`.
-fn script_words<'a>(alloc: Global) -> Result<Command<'a>, AllocError> {
-    Command::new(alloc, "script")
-        .about("Prints the samples by time, as `perf script` does")
-        .arg(file_word(alloc))
 }
 
 // The word for the file.
@@ -140,6 +135,8 @@ fn run_command(rt: &HostRuntime, matches: &ArgMatches<'_>) -> io::Result<u8> {
         folding::fold(rt, words)
     } else if command == "flame" {
         folding::flame(rt, words)
+    } else if command == "script" {
+        scripting::script(rt, words)
     } else {
         show_file(rt, command, words)
     }
@@ -155,8 +152,6 @@ fn show_file(rt: &HostRuntime, command: &str, words: &ArgMatches<'_>) -> io::Res
     let mut output = rt.stdout();
     let ended = if command == "summary" {
         perf_summary::run::run(rt.alloc(), &bytes, &mut output)
-    } else if command == "script" {
-        write_script(rt.alloc(), &bytes, &mut output)
     } else {
         run(rt.alloc(), &bytes, &mut output, shown(command, words))
     };
@@ -178,7 +173,7 @@ pub(crate) fn bytes_of(rt: &HostRuntime, path: &str) -> io::Result<Vec<u8>> {
 const LARGE: usize = 1 << 28;
 
 // Prints on standard error what a large file is waited for, if somebody looks.
-fn note_progress(rt: &HostRuntime, path: &str, len: usize) -> io::Result<()> {
+pub(crate) fn note_progress(rt: &HostRuntime, path: &str, len: usize) -> io::Result<()> {
     if len < LARGE || !rt.stderr().is_terminal() {
         return Ok(());
     }

@@ -1,5 +1,5 @@
 -- A sample that is added to lines.
-use Rattle.std.proofs.Common.{◌≡◌, ℕ, List, reverse, refl, sym, ◌∙◌, ap, subst}
+use Rattle.std.proofs.Common.{◌≡◌, ℕ, true, false, List, reverse, refl, sym, ◌∙◌, ap, subst, if◌then◌else◌}
 use Rattle.std.specs.Prelude.{Option, Some, None, option_map, Result, OnOk}
 use Rattle.std.proofs.lemmas.Result.{on_ok_weaker}
 use Rattle.perf_base.specs.Configuration.{Configuration}
@@ -20,7 +20,7 @@ use Rattle.perf_walk.specs.Samples.{sample_of, sample_view}
 use Rattle.perf_walk.specs.Steps.{Finds, IsFrameOf}
 use Rattle.perf_walk.specs.declared.sampling.Sample.{Sample}
 use Rattle.perf_walk.specs.declared.walk.Found.{Found}
-use Rattle.perf_fold.specs.Folds.{add_sample, add_moment, add_if, weight_of}
+use Rattle.perf_fold.specs.Folds.{add_sample, add_chosen, add_if, add_taken, takes, weight_of}
 use Rattle.perf_fold.specs.SampleStacks.{sample_calls, stack_text}
 use Rattle.perf_fold.specs.declared.folding.Choice.{Choice}
 
@@ -38,15 +38,26 @@ abbrev pub with_sample : Choice → (names : List (List ℕ)) → Moment → (mi
 with_sample how names m misc lines s made =
     add_count lines (stack_text how.frames names m.event m.known made (reverse (sample_calls misc s))) (weight_of how.weight made)
 
-pub added_moment : (how : Choice) (names : List (List ℕ)) (o : Order) (lines : List Line) (m : Moment) (misc : ℕ) (s : SampleValue) (made : Sample) → sample_of m.config o m.frame ≡ Some s
-    → misc ≡ (header_of o m.frame).misc → made ≡ sample_view misc s → with_sample how names m misc lines s made ≡ add_moment how names o lines m
-added_moment how names o lines m misc s made is same view =
-    ap (with_sample how names m misc lines s) view
-    ∙ ap (λ k. add_sample how names m k lines (Some s)) same
-    ∙ ap (add_sample how names m (header_of o m.frame).misc lines) (sym is)
+pub taken : (how : Choice) (names : List (List ℕ)) (m : Moment) (misc : ℕ) (lines : List Line) (s : SampleValue) (made : Sample) → made ≡ sample_view misc s → takes how names m misc s ≡ true
+    → with_sample how names m misc lines s made ≡ add_taken how names m misc lines s
+taken how names m misc lines s made view counts =
+    ap (with_sample how names m misc lines s) view ∙ ap (λ b. if b then add_sample how names m misc lines (Some s) else lines) (sym counts)
 
-pub no_moment : (how : Choice) (names : List (List ℕ)) (o : Order) (lines : List Line) (m : Moment) → sample_of m.config o m.frame ≡ None → lines ≡ add_moment how names o lines m
-no_moment how names o lines m none = ap (add_sample how names m (header_of o m.frame).misc lines) (sym none)
+pub untaken : (how : Choice) (names : List (List ℕ)) (m : Moment) (misc : ℕ) (lines : List Line) (s : SampleValue) → takes how names m misc s ≡ false → lines ≡ add_taken how names m misc lines s
+untaken how names m misc lines s not = ap (λ b. if b then add_sample how names m misc lines (Some s) else lines) (sym not)
+
+-- the lines with a sample that may be absent, if it counts
+abbrev with_if : Choice → (names : List (List ℕ)) → Moment → (misc : ℕ) → List Line → Option SampleValue → List Line
+with_if how names m misc lines x =
+    if (elim x [ Some s ↦ takes how names m misc s | None ↦ false ]) then add_sample how names m misc lines x else lines
+
+pub added_moment : (how : Choice) (names : List (List ℕ)) (o : Order) (lines : List Line) (m : Moment) (misc : ℕ) (s : SampleValue) → sample_of m.config o m.frame ≡ Some s → misc ≡ (header_of o m.frame).misc
+    → add_taken how names m misc lines s ≡ add_chosen how names o lines m
+added_moment how names o lines m misc s is same =
+    ap (λ k. add_taken how names m k lines s) same ∙ ap (with_if how names m (header_of o m.frame).misc lines) (sym is)
+
+pub no_moment : (how : Choice) (names : List (List ℕ)) (o : Order) (lines : List Line) (m : Moment) → sample_of m.config o m.frame ≡ None → lines ≡ add_chosen how names o lines m
+no_moment how names o lines m none = ap (with_if how names m (header_of o m.frame).misc lines) (sym none)
 
 -- ---- a step
 
@@ -70,18 +81,18 @@ known_with f e older m here = ap (known_if older) here
 pub add_some : {E : Type 0} (r : Result (Unit {0}) E) (f : File) (m : Moment) (found : Found) (flat seen : FlatFrame) (how : Choice) (names : List (List ℕ)) (lines grown : List Line) (made : Sample)
     → seen ≡ flat → IsFrameOf f m found flat
     → ((c : Configuration) (o : Order) (bytes : List ℕ) → IsFlat c o bytes seen → Some made ≡ option_map (sample_view seen.misc) (sample_of c o bytes))
-    → ((s : SampleValue) → sample_of m.config (order_of f.order) m.frame ≡ Some s → made ≡ sample_view flat.misc s → OnOk r (grown ≡ with_sample how names m flat.misc lines s made))
-    → OnOk r (grown ≡ add_moment how names (order_of f.order) lines m)
+    → ((s : SampleValue) → sample_of m.config (order_of f.order) m.frame ≡ Some s → made ≡ sample_view flat.misc s → OnOk r (grown ≡ add_taken how names m flat.misc lines s))
+    → OnOk r (grown ≡ add_chosen how names (order_of f.order) lines m)
 add_some r f m found flat seen how names lines grown made same is sees adds =
     let o : Order = order_of f.order in
     let there : Some made ≡ option_map (sample_view flat.misc) (sample_of m.config o m.frame) =
     subst (λ (x : FlatFrame). Some made ≡ option_map (sample_view x.misc) (sample_of m.config o m.frame)) same (sees m.config o m.frame (subst (λ (x : FlatFrame). IsFlat m.config o m.frame x) (sym same) is.states)) in
     let s = sampled flat.misc (sample_of m.config o m.frame) made there in
-    on_ok_weaker r (λ eq. eq ∙ added_moment how names o lines m flat.misc s.0 made s.1 is.states.header.misc s.2) (adds s.0 s.1 s.2)
+    on_ok_weaker r (λ eq. eq ∙ added_moment how names o lines m flat.misc s.0 s.1 is.states.header.misc) (adds s.0 s.1 s.2)
 
 -- one that is no sample adds nothing
 pub add_none : (f : File) (m : Moment) (found : Found) (flat seen : FlatFrame) (how : Choice) (names : List (List ℕ)) (lines : List Line) → seen ≡ flat → IsFrameOf f m found flat
-    → ((c : Configuration) (o : Order) (bytes : List ℕ) → IsFlat c o bytes seen → None ≡ option_map (sample_view seen.misc) (sample_of c o bytes)) → lines ≡ add_moment how names (order_of f.order) lines m
+    → ((c : Configuration) (o : Order) (bytes : List ℕ) → IsFlat c o bytes seen → None ≡ option_map (sample_view seen.misc) (sample_of c o bytes)) → lines ≡ add_chosen how names (order_of f.order) lines m
 add_none f m found flat seen how names lines same is sees =
     let o : Order = order_of f.order in
     no_moment how names o lines m (unsampled seen.misc (sample_of m.config o m.frame) (sees m.config o m.frame (subst (λ (x : FlatFrame). IsFlat m.config o m.frame x) (sym same) is.states)))
@@ -89,7 +100,7 @@ add_none f m found flat seen how names lines same is sees =
 -- a step to a frame, which was added
 pub gone : {E : Type 0} (r : Result (Unit {0}) E) (f g : File) (e : Entry) (known : List Change) (found : Found) (flat : FlatFrame) (history : History) (how : Choice) (names : List (List ℕ)) (lines grown : List Line)
     → g ≡ f → Finds f (moment_at f e known) (Some found) flat × IsPast history (known_after f e known)
-    → ((m : Moment) → IsFrameOf g m found flat → IsPast history m.known → OnOk r (grown ≡ add_moment how names (order_of g.order) lines m))
+    → ((m : Moment) → IsFrameOf g m found flat → IsPast history m.known → OnOk r (grown ≡ add_chosen how names (order_of g.order) lines m))
     → OnOk r (IsPast history (known_after f e known) × (grown ≡ add_if how names (order_of f.order) lines (moment_at f e known)))
 gone r f g e known found flat history how names lines grown same step adds =
     let m = found_moment f (moment_at f e known) found flat step.0 in
@@ -97,7 +108,7 @@ gone r f g e known found flat history how names lines grown same step adds =
     let past : IsPast history m.0.known = subst (IsPast history) (known_with f e known m.0 m.1) step.1 in
     on_ok_weaker r (λ eq. (
       step.1,
-      eq ∙ ap (λ (h : File). add_moment how names (order_of h.order) lines m.0) same ∙ sym (ap (add_if how names (order_of f.order) lines) m.1),
+      eq ∙ ap (λ (h : File). add_chosen how names (order_of h.order) lines m.0) same ∙ sym (ap (add_if how names (order_of f.order) lines) m.1),
     )) (adds m.0 is past)
 
 -- a step to no frame

@@ -1,7 +1,7 @@
 -- The lines of the frames of entries, one entry after another.
-use Rattle.std.proofs.Common.{◌≡◌, ℕ, suc, ◌+◌, ◌<◌, ◌≤◌, List, [], ◌∷◌, length, drop, get_or, refl, sym, ◌∙◌, ap, subst, drop-cons, arith}
+use Rattle.std.proofs.Common.{◌≡◌, ℕ, Bool, true, false, cond, suc, ◌+◌, ◌<◌, ◌≤◌, List, fold, [], ◌∷◌, length, drop, get_or, refl, sym, ◌∙◌, ap, subst, drop-cons, arith}
 use Rattle.std.specs.Prelude.{Option, Some, None}
-use Rattle.std.specs.List.{cons_option}
+use Rattle.std.specs.List.{cons_option, filter}
 use Rattle.std.proofs.lemmas.List.{drop_all}
 use Rattle.perf_base.specs.Dynamic.{order_of}
 use Rattle.perf_base.specs.Order.{Order}
@@ -12,12 +12,17 @@ use Rattle.perf_history.specs.declared.changes.Change.{Change}
 use Rattle.perf_history.specs.declared.histories.History.{History}
 use Rattle.perf_walk.specs.Plain.{IsPast}
 use Rattle.perf_walk.specs.Moments.{Moment, moments, moment_at, known_after}
-use Rattle.perf_fold.specs.Folds.{add_if, add_moments}
+use Rattle.perf_fold.specs.Folds.{add_if, add_moment, add_moments, is_chosen}
 use Rattle.perf_fold.specs.declared.folding.Choice.{Choice}
+
+-- a frame before others is added, if its sample counts
+add_first : (add : List Line → Moment → List Line) (lines : List Line) (m : Moment) (ms : List Moment) (b : Bool) → fold add lines (cond b (m ∷ ms) ms) ≡ fold add (cond b (add lines m) lines) ms
+add_first add lines m ms true = refl
+add_first add lines m ms false = refl
 
 add_one : (how : Choice) (names : List (List ℕ)) (o : Order) (lines : List Line) (m : Option Moment) (ms : List Moment)
     → add_moments how names o lines (cons_option m ms) ≡ add_moments how names o (add_if how names o lines m) ms
-add_one how names o lines (Some m) ms = refl
+add_one how names o lines (Some m) ms = add_first (add_moment how names o) lines m (filter (is_chosen how names o) ms) (is_chosen how names o m)
 add_one how names o lines None ms = refl
 
 -- the lines so far, to which those of the entries that are left are added, are the lines of all

@@ -1,5 +1,5 @@
 -- What is written of the folded stacks of a file.
-use Rattle.std.specs.Prelude.{◌≡◌, ℕ, List, Option, Result, Ok, Err}
+use Rattle.std.specs.Prelude.{◌≡◌, ℕ, true, false, List, Option, Result, Ok, Err}
 use Rattle.perf_flame.specs.Lines.{Line}
 use Rattle.perf_lines.specs.Outcomes.{status_of}
 use Rattle.perf_lines.specs.declared.outcome.Outcome.{Outcome}
@@ -10,6 +10,7 @@ use Rattle.perf_file.specs.declared.error.OpenError.TheVariants as opens
 use Rattle.perf_folded.specs.Written.{WritesForm}
 use Rattle.perf_folded.specs.declared.error.TextError.TheVariants as texts
 use Rattle.perf_folded.specs.declared.form.Form.{Form}
+use Rattle.perf_walk.specs.Filters.{takes_any}
 use Rattle.perf_fold.specs.EventNames.{names_by}
 use Rattle.perf_fold.specs.Folds.{IsFoldOf}
 use Rattle.perf_fold.specs.declared.error.FoldError.{FoldError}
@@ -17,20 +18,29 @@ use Rattle.perf_fold.specs.declared.error.FoldError.TheVariants as errors
 use Rattle.perf_fold.specs.declared.folding.Choice.{Choice}
 use Rattle.perf_folded.specs.declared.error.TextError.{TextError}
 
--- these are the lines of what the bytes of a file contain
+-- the names of the events of the bytes of a file, which contain that
+abbrev pub names_in : (bytes : List ℕ) → File → List (List ℕ)
+names_in bytes f = names_by (event_name bytes f) 0 f.events
+
+-- these are the lines of what the bytes of a file contain, an event of which counts
 abbrev pub AreLinesOf : Choice → (bytes : List ℕ) → List Line → Type 0
 AreLinesOf how bytes lines =
-    (f : File) × (opened bytes ≡ Ok f) × IsFoldOf how (names_by (event_name bytes f) 0 f.events) f lines
+    (f : File) × (opened bytes ≡ Ok f) × (takes_any how.filter (names_in bytes f) ≡ true) × IsFoldOf how (names_in bytes f) f lines
+
+-- no event of a file counts
+abbrev pub LacksEvent : Choice → (bytes : List ℕ) → Type 0
+LacksEvent how bytes = (f : File) × (opened bytes ≡ Ok f) × (takes_any how.filter (names_in bytes f) ≡ false)
 
 -- what was written of the lines of a file
 abbrev pub WritesLines : Choice → Form → (bytes : List ℕ) → Result Outcome TextError → (old new : Option (List ℕ)) → Type 0
 WritesLines how form bytes ended old new = (lines : List Line) × AreLinesOf how bytes lines × WritesForm form lines ended old new
 
--- What was written of the folded stacks of the bytes of a file: nothing, if it cannot be opened, there
--- is no such text, or memory ran out.
+-- What was written of the folded stacks of the bytes of a file: nothing, if it cannot be opened, no
+-- event has the name that counts, there is no such text, or memory ran out.
 abbrev pub WritesFold : Choice → Form → (bytes : List ℕ) → Result Outcome FoldError → (old new : Option (List ℕ)) → Type 0
 WritesFold how form bytes (Ok ended) old new = WritesLines how form bytes (Ok ended) old new
 WritesFold how form bytes (Err (errors.Open e)) old new = Fails e (opened bytes) × (new ≡ old)
+WritesFold how form bytes (Err errors.NoEvent) old new = LacksEvent how bytes × (new ≡ old)
 WritesFold how form bytes (Err (errors.Text texts.OutOfMemory)) old new = new ≡ old
 WritesFold how form bytes (Err (errors.Text e)) old new = WritesLines how form bytes (Err e) old new
 

@@ -15,6 +15,8 @@ use std::fmt;
 pub enum FoldError {
     /// The file cannot be opened.
     Open(OpenError),
+    /// No event has the name that the filter states.
+    NoEvent,
     /// There is no such text of the stacks, or memory ran out.
     Text(TextError),
 }
@@ -42,6 +44,9 @@ impl fmt::Display for FoldError {
     fn fmt<W: fmt::Write>(&self, f: &mut fmt::Formatter<W>) -> fmt::Result {
         match self {
             FoldError::Open(error) => write!(f, "{error}"),
+            FoldError::NoEvent => f.write_str(
+                "no event has this name: `perf_data events` prints the names",
+            ),
             FoldError::Text(error) => write!(f, "{error}"),
         }
     }

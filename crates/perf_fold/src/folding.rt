@@ -15,7 +15,7 @@ use crate::stack::{put_calls, put_stack};
 use perf_file::{Entry, Recording};
 use perf_flame::folded::Folded;
 use perf_stacks::{Frames, Stacks};
-use perf_walk::{Call, Found, Sample, Walk, sample_in};
+use perf_walk::{Call, Filter, Found, Sample, Walk, sample_in};
 use std::alloc::{AllocError, Global};
 
 /// What a sample counts as.
@@ -29,11 +29,13 @@ pub enum Weight {
 
 /// How a recording is folded.
 #[derive(Clone, Copy, Debug)]
-pub struct Choice {
+pub struct Choice<'a> {
     /// What frames are named by.
     pub frames: Frames,
     /// What a sample counts as.
     pub weight: Weight,
+    /// Which samples count.
+    pub filter: Filter<'a>,
 }
 
 // What a sample counts as.
@@ -48,27 +50,28 @@ fn weight_of(weight: Weight, sample: &Sample) -> u64
 
 // The lines of the frames so far, and what is used again for each.
 #[derive(Drop)]
-struct Folder {
-    how: Choice,
+struct Folder<'a> {
+    how: Choice<'a>,
     names: Vec<String>,
     stacks: Stacks,
     calls: Vec<Call>,
     folded: Folded,
 }
 
-impl Folder {
-    ghost use Rattle.std.specs.Prelude.{Some, reverse};
+impl<'a> Folder<'a> {
+    ghost use Rattle.std.specs.Prelude.{Some, get_or, reverse};
     ghost use Rattle.perf_flame.specs.Lines.{add_count};
     ghost use Rattle.perf_fold.specs.EventNames.{texts_of};
     ghost use Rattle.perf_fold.specs.SampleStacks.{sample_calls, stack_text};
     ghost use Rattle.perf_sample_types.specs.Sample.{SampleValue};
+    ghost use Rattle.perf_walk.specs.Filters.{takes_event};
     ghost use Rattle.perf_walk.specs.Samples.{sample_of, sample_view};
     ghost use Rattle.perf_walk.specs.Moments.{Moment, known_after, moment_at};
     ghost use Rattle.perf_walk.specs.Steps.{IsFrameOf};
 
     // No lines yet.
-    fn new(alloc: Global, how: Choice, names: Vec<String>) -> Folder
-        ensures how { result.how ≡ how }
+    fn new(alloc: Global, how: Choice<'a>, names: Vec<String>) -> Folder<'a>
+        ensures how { result.how ≡ how.entry }
         ensures names { result.names ≡ names }
         ensures lines { folded_lines result.folded ≡ [] }
     {
@@ -117,11 +120,60 @@ impl Folder {
         self.folded.add(self.stacks.text(), weight)
     }
 
+    // Whether samples of the event with that number count.
+    fn takes_event(&self, event: usize) -> bool
+        ensures { result ≡ takes_event self.now.how.filter
+            (get_or (texts_of self.now.names.items) event []) }
+    {
+        match self.names.get(event) {
+            Some(name) => self.how.filter.takes_event(name.as_bytes()),
+            None => self.how.filter.takes_event(b""),
+        }
+    }
+
+    // Whether a sample counts, that of a frame that was found.
+    fn takes(&self, walk: &Walk<'_, '_>, found: &Found<'_>, sample: &Sample) -> bool
+        ensures { (m : Moment) (s : SampleValue) →
+            IsFrameOf (view walk.now.recording.now) m found.now walk.now.frame →
+            IsPast walk.now.history m.known →
+            sample_of m.config (order_of (view walk.now.recording.now).order) m.frame ≡ Some s →
+            sample.now ≡ sample_view walk.now.frame.misc s →
+            result ≡ folds.takes self.now.how (texts_of self.now.names.items) m walk.now.frame.misc s }
+    {
+        let event = self.takes_event(found.event);
+        let taken = walk.takes(&self.how.filter, sample);
+        event && taken
+    }
+
+    // Adds a sample, that of a frame that was found, if it counts.
+    fn add_if_taken(
+        &mut self,
+        walk: &Walk<'_, '_>,
+        found: &Found<'_>,
+        sample: &Sample,
+    ) -> Result<(), AllocError>
+        ensures added { (m : Moment) (s : SampleValue) →
+            IsFrameOf (view walk.now.recording.now) m found.now walk.now.frame →
+            IsPast walk.now.history m.known →
+            sample_of m.config (order_of (view walk.now.recording.now).order) m.frame ≡ Some s →
+            sample.now ≡ sample_view walk.now.frame.misc s →
+            OnOk result (folded_lines self.new.folded ≡ folds.add_taken self.old.how
+            (texts_of self.old.names.items) m walk.now.frame.misc (folded_lines self.old.folded) s) }
+        ensures how { self.new.how ≡ self.old.how }
+        ensures names { self.new.names ≡ self.old.names }
+    {
+        if self.takes(walk, found, sample) {
+            self.add_sample(walk, found, sample)
+        } else {
+            Ok(())
+        }
+    }
+
     // Adds the sample of a frame that was found, if it is one.
     fn add(&mut self, walk: &Walk<'_, '_>, found: &Found<'_>) -> Result<(), AllocError>
         ensures added { (m : Moment) → IsFrameOf (view walk.now.recording.now) m found.now walk.now.frame →
             IsPast walk.now.history m.known →
-            OnOk result (folded_lines self.new.folded ≡ folds.add_moment self.old.how
+            OnOk result (folded_lines self.new.folded ≡ folds.add_chosen self.old.how
             (texts_of self.old.names.items) (order_of (view walk.now.recording.now).order)
             (folded_lines self.old.folded) m) }
         ensures how { self.new.how ≡ self.old.how }
@@ -129,7 +181,7 @@ impl Folder {
     {
         let frame = walk.frame();
         match sample_in(frame) {
-            Some(sample) => self.add_sample(walk, found, &sample),
+            Some(sample) => self.add_if_taken(walk, found, &sample),
             None => Ok(()),
         }
     }
@@ -154,14 +206,15 @@ impl Folder {
 }
 
 /// The folded stacks of a recording: for each sample, in order of time, a stack, whose count is how
-/// many samples have it, or the sum of their periods modulo 2^64.
+/// many samples have it, or the sum of their periods modulo 2^64. Samples that the filter does not
+/// take do not count.
 ///
 /// A stack is the name of the thread, the name of the event if the file has several, and the frames
 /// of the call chain from the outermost to the innermost. Without addresses in the chain, the
 /// address of the instruction is the one frame.
 /// A sample of a group counts once, for the event of its frame.
-pub fn fold(alloc: Global, recording: &Recording<'_>, how: Choice) -> Result<Folded, AllocError>
-    ensures { IfOk result (λ folded. folds.IsFoldOf how (own_names recording.now.events.items)
+pub fn fold(alloc: Global, recording: &Recording<'_>, how: Choice<'_>) -> Result<Folded, AllocError>
+    ensures { IfOk result (λ folded. folds.IsFoldOf how.entry (own_names recording.now.events.items)
         (view recording.now) (folded_lines folded)) }
 {
     let entries = recording.in_order(alloc)?;
@@ -172,10 +225,10 @@ pub fn fold(alloc: Global, recording: &Recording<'_>, how: Choice) -> Result<Fol
 fn fold_entries(
     alloc: Global,
     recording: &Recording<'_>,
-    how: Choice,
+    how: Choice<'_>,
     entries: &[Entry],
 ) -> Result<Folded, AllocError>
-    ensures { IfOk result (λ folded. folded_lines folded ≡ folds.add_moments how
+    ensures { IfOk result (λ folded. folded_lines folded ≡ folds.add_moments how.entry
         (own_names recording.now.events.items) (order_of (view recording.now).order) []
         (moments (view recording.now) entries.now [])) }
 {

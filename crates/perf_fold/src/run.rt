@@ -5,6 +5,7 @@ ghost use Rattle.perf_fold.specs.Written as written;
 
 use crate::error::FoldError;
 use crate::folding::{Choice, fold};
+use crate::names::has_event;
 use perf_file::{OpenError, Recording};
 use perf_folded::{Form, TextError, write_folded};
 use perf_lines::outcome::Outcome;
@@ -12,21 +13,24 @@ use std::alloc::Global;
 use std::io::Write;
 
 /// Writes the folded stacks of the bytes of a file in a form. Nothing is written before all of the
-/// text is made, and nothing at all if the file cannot be opened, the form is refused, or memory runs
-/// out.
+/// text is made, and nothing at all if the file cannot be opened, no event has the name that the
+/// filter states, the form is refused, or memory runs out.
 ///
 /// The outcome is `Clean`, or `Stopped` if writing failed.
 pub fn write_fold<W: Write>(
     alloc: Global,
     bytes: &[u8],
-    how: Choice,
+    how: Choice<'_>,
     form: Form,
     writer: &mut W,
 ) -> Result<Outcome, FoldError>
-    ensures { written.WritesFold how form bytes.now result
+    ensures { written.WritesFold how.entry form bytes.now result
         (W.contents writer.old) (W.contents writer.new) }
 {
     let recording = Recording::open(alloc, bytes)?;
+    if !has_event(alloc, &recording, &how.filter)? {
+        return Err(FoldError::NoEvent);
+    }
     let folded = fold(alloc, &recording, how)?;
     match write_folded(alloc, &folded, form, writer) {
         Ok(outcome) => Ok(outcome),
@@ -34,8 +38,8 @@ pub fn write_fold<W: Write>(
     }
 }
 
-/// The exit status after that: that of its outcome, 2 if the file cannot be opened or the form is
-/// refused, and 3 if memory ran out.
+/// The exit status after that: that of its outcome, 2 if the file cannot be opened, no event has the
+/// name, or the form is refused, and 3 if memory ran out.
 pub fn status_after(ended: &Result<Outcome, FoldError>) -> u8
     ensures { result ≡ written.status_after ended.now }
 {

@@ -1,8 +1,7 @@
 -- The text of the sample that was found in a frame.
-use Rattle.std.proofs.Common.{◌≡◌, ℕ, suc, ◌+◌, ◌<◌, Bool, true, false, List, [], ◌∷◌, ◌++◌, map, length, drop, get_or, drop-cons, refl, sym, ◌∙◌, ap, subst, append_assoc, arith}
+use Rattle.std.proofs.Common.{◌≡◌, ℕ, suc, ◌+◌, ◌<◌, ◌||◌, not, Bool, true, false, List, [], ◌∷◌, ◌++◌, map, length, drop, get_or, drop-cons, refl, sym, ◌∙◌, ap, subst, append_assoc, arith}
 use Rattle.std.specs.Prelude.{Option, Some, None, option_map}
 use Rattle.perf_base.specs.Dynamic.{order_of}
-use Rattle.perf_base.specs.Header.{header_of}
 use Rattle.perf_file.specs.IdTables.{event_of}
 use Rattle.perf_file.specs.Opened.{File, table_of}
 use Rattle.perf_file.specs.declared.ids.IdOfEvent.{IdOfEvent}
@@ -12,23 +11,25 @@ use Rattle.perf_flat.specs.declared.frame.FlatFrame.{FlatFrame}
 use Rattle.perf_history.specs.declared.changes.Change.{Change}
 use Rattle.perf_sample_types.specs.Sample.{SampleValue}
 use Rattle.perf_walk.specs.Calls.{calls_of}
+use Rattle.perf_walk.specs.Filters.{takes_at}
 use Rattle.perf_walk.specs.Moments.{Moment}
 use Rattle.perf_walk.specs.Plain.{plain}
 use Rattle.perf_walk.specs.Samples.{sample_view}
 use Rattle.perf_walk.specs.declared.calls.Call.{Call}
 use Rattle.perf_walk.specs.declared.sampling.Sample.{Sample}
+use Rattle.perf_walk.specs.declared.filtering.Filter.{Filter}
 use Rattle.perf_words.specs.Bits.{has_bit}
 use Rattle.perf_script.specs.Counters.{readings_of, counters_text, counter_text, moved_text}
 use Rattle.perf_script.specs.Ids.{finds}
 use Rattle.perf_script.specs.Labels.{EventLabel, label_view}
 use Rattle.perf_script.specs.Moved.{moved}
 use Rattle.perf_script.specs.SampleText.{Shown}
-use Rattle.perf_script.specs.ScriptText.{is_guest, has_counters, shown_text, plain_text, read_by, read_at, text_at, sample_at, shown_at}
+use Rattle.perf_script.specs.ScriptText.{Choice, is_guest, is_hidden, misc_at, has_counters, shown_text, plain_text, read_by, read_at, text_at, sample_at, shown_at}
 use Rattle.perf_script.specs.UnderWay.{AreEvents, HasParts, shown_by}
 use Rattle.perf_script.specs.declared.readings.Reading.{Reading}
 use Rattle.perf_script.specs.declared.script.Events.{Events}
 use Rattle.perf_script.specs.declared.script.State.{State}
-use Rattle.perf_script.proofs.Fields.{fields_of}
+use Rattle.perf_walk.proofs.Fields.{fields_of}
 use Rattle.perf_script.proofs.PlainText.{shown_same}
 
 -- ---- lists
@@ -64,20 +65,20 @@ pub some_of : (misc : ℕ) (o : Option SampleValue) (x : Sample) → Some x ≡ 
 some_of misc (Some s) x e = (s, refl, cc)
 some_of misc None x e = absurd (cc)
 
-abbrev text_if_some : File → List EventLabel → (older : List Reading) → Moment → Option SampleValue → List ℕ
-text_if_some f labels older m o = elim o [
-  | Some s ↦ shown_text labels (table_of f.events) older (readings_of m.config.read_format s) m.event m.known (shown_at f m s)
+abbrev text_if_some : File → Choice → (older : List Reading) → Moment → Option SampleValue → List ℕ
+text_if_some f c older m o = elim o [
+  | Some s ↦ shown_text c.labels (table_of f.events) older (readings_of m.config.read_format s) m.event m.known (shown_at f m (is_hidden f c.filter m s) s)
   | None ↦ []
 ]
 
 abbrev read_if_some : File → (older : List Reading) → Moment → Option SampleValue → List Reading
-read_if_some f older m o = elim o [ Some s ↦ read_by older (readings_of m.config.read_format s) (shown_at f m s) | None ↦ older ]
+read_if_some f older m o = elim o [ Some s ↦ read_by older (readings_of m.config.read_format s) (shown_at f m false s) | None ↦ older ]
 
 pub none_read : (f : File) (older : List Reading) (m : Moment) (misc : ℕ) → None ≡ option_map (sample_view misc) (sample_at f m) → read_at f older m ≡ older
 none_read f older m misc e = ap (read_if_some f older m) (none_of misc (sample_at f m) e)
 
-pub none_text : (f : File) (labels : List EventLabel) (older : List Reading) (m : Moment) (misc : ℕ) → None ≡ option_map (sample_view misc) (sample_at f m) → text_at f labels older m ≡ []
-none_text f labels older m misc e = ap (text_if_some f labels older m) (none_of misc (sample_at f m) e)
+pub none_text : (f : File) (c : Choice) (older : List Reading) (m : Moment) (misc : ℕ) → None ≡ option_map (sample_view misc) (sample_at f m) → text_at f c older m ≡ []
+none_text f c older m misc e = ap (text_if_some f c older m) (none_of misc (sample_at f m) e)
 
 -- ---- the readings count only if there are counters
 
@@ -96,8 +97,8 @@ text_parts labels ids older first second event known s same = go (has_bit s.fiel
 
 -- ---- what is shown
 
-abbrev shown_with : (fields : ℕ) → (guest : Bool) → Sample → List Call → Shown
-shown_with fields guest sample calls = record { fields = fields; guest = guest; sample = sample; calls = calls }
+abbrev shown_with : (fields : ℕ) → (hidden : Bool) → Sample → List Call → Shown
+shown_with fields hidden sample calls = record { fields = fields; hidden = hidden; sample = sample; calls = calls }
 
 -- what was found of a sample in a frame
 pub record IsFound (f : File) (m : Moment) (flat : FlatFrame) (state : State) (x : Sample) : Type 0 where
@@ -107,32 +108,40 @@ pub record IsFound (f : File) (m : Moment) (flat : FlatFrame) (state : State) (x
   pub view : x ≡ sample_view flat.misc sample
   pub parts : HasParts m.config.read_format sample flat.present state
 
-shown_is : (f : File) (m : Moment) (flat : FlatFrame) (state : State) (x : Sample) → (h : IsFound f m flat state x) → shown_by state flat.present (is_guest flat.misc) x ≡ shown_at f m h.sample
-shown_is f m flat state x h =
-    let misc : flat.misc ≡ (header_of (order_of f.order) m.frame).misc = h.states.header.misc in
-    ap (λ n. shown_with n (is_guest flat.misc) x state.calls.items) (fields_of m.config (order_of f.order) m.frame h.sample flat h.states h.is)
-    ∙ ap (λ y. shown_with (sample_present m.config) (is_guest flat.misc) y state.calls.items) h.view
-    ∙ ap (λ n. shown_with (sample_present m.config) (is_guest n) (sample_view n h.sample) state.calls.items) misc
-    ∙ ap (λ cs. shown_with (sample_present m.config) (is_guest (header_of (order_of f.order) m.frame).misc) (sample_view (header_of (order_of f.order) m.frame).misc h.sample) cs) h.parts.calls
+shown_is : (f : File) (m : Moment) (flat : FlatFrame) (state : State) (x : Sample) (hidden : Bool) → (h : IsFound f m flat state x) → shown_by state flat.present hidden x ≡ shown_at f m hidden h.sample
+shown_is f m flat state x hidden h =
+    let misc : flat.misc ≡ misc_at f m = h.states.header.misc in
+    ap (λ n. shown_with n hidden x state.calls.items) (fields_of m.config (order_of f.order) m.frame h.sample flat h.states h.is)
+    ∙ ap (λ y. shown_with (sample_present m.config) hidden y state.calls.items) h.view
+    ∙ ap (λ n. shown_with (sample_present m.config) hidden (sample_view n h.sample) state.calls.items) misc
+    ∙ ap (λ cs. shown_with (sample_present m.config) hidden (sample_view (misc_at f m) h.sample) cs) h.parts.calls
 
-pub found_read : (f : File) (older : List Reading) (m : Moment) (flat : FlatFrame) (state : State) (x : Sample) → IsFound f m flat state x
-    → read_by older state.readings.items (shown_by state flat.present (is_guest flat.misc) x) ≡ read_at f older m
-found_read f older m flat state x h =
-    let shown : Shown = shown_by state flat.present (is_guest flat.misc) x in
+pub found_read : (f : File) (older : List Reading) (m : Moment) (flat : FlatFrame) (state : State) (x : Sample) (hidden : Bool) → IsFound f m flat state x
+    → read_by older state.readings.items (shown_by state flat.present hidden x) ≡ read_at f older m
+found_read f older m flat state x hidden h =
+    let shown : Shown = shown_by state flat.present hidden x in
     read_parts older state.readings.items (readings_of m.config.read_format h.sample) shown h.parts.readings
-    ∙ ap (read_by older (readings_of m.config.read_format h.sample)) (shown_is f m flat state x h)
+    ∙ ap (read_by older (readings_of m.config.read_format h.sample)) (shown_is f m flat state x hidden h)
     ∙ ap (read_if_some f older m) (sym h.is)
 
-pub found_text : (f : File) (labels : List EventLabel) (older : List Reading) (m : Moment) (flat : FlatFrame) (state : State) (x : Sample) (event : ℕ) (changes : List Change) → IsFound f m flat state x
-    → event ≡ m.event → map plain changes ≡ m.known
-    → shown_text labels (table_of f.events) older state.readings.items event changes (shown_by state flat.present (is_guest flat.misc) x) ≡ text_at f labels older m
-found_text f labels older m flat state x event changes h at known =
+pub found_text : (f : File) (c : Choice) (older : List Reading) (m : Moment) (flat : FlatFrame) (state : State) (x : Sample) (hidden : Bool) (event : ℕ) (changes : List Change) → (h : IsFound f m flat state x)
+    → hidden ≡ is_hidden f c.filter m h.sample → event ≡ m.event → map plain changes ≡ m.known
+    → shown_text c.labels (table_of f.events) older state.readings.items event changes (shown_by state flat.present hidden x) ≡ text_at f c older m
+found_text f c older m flat state x hidden event changes h hides at known =
+    let labels : List EventLabel = c.labels in
     let ids : List IdOfEvent = table_of f.events in
-    let shown : Shown = shown_by state flat.present (is_guest flat.misc) x in
+    let shown : Shown = shown_by state flat.present hidden x in
     let readings : List Reading = readings_of m.config.read_format h.sample in
     text_parts labels ids older state.readings.items readings event changes shown h.parts.readings
-    ∙ ap (shown_text labels ids older readings event changes) (shown_is f m flat state x h)
-    ∙ sym (shown_same labels ids older readings event changes (shown_at f m h.sample))
-    ∙ ap (λ cs. shown_text labels ids older readings event cs (shown_at f m h.sample)) known
-    ∙ ap (λ n. shown_text labels ids older readings n m.known (shown_at f m h.sample)) at
-    ∙ ap (text_if_some f labels older m) (sym h.is)
+    ∙ ap (shown_text labels ids older readings event changes) (shown_is f m flat state x hidden h ∙ ap (λ b. shown_at f m b h.sample) hides)
+    ∙ sym (shown_same labels ids older readings event changes (shown_at f m (is_hidden f c.filter m h.sample) h.sample))
+    ∙ ap (λ cs. shown_text labels ids older readings event cs (shown_at f m (is_hidden f c.filter m h.sample) h.sample)) known
+    ∙ ap (λ n. shown_text labels ids older readings n m.known (shown_at f m (is_hidden f c.filter m h.sample) h.sample)) at
+    ∙ ap (text_if_some f c older m) (sym h.is)
+
+-- whether it is hidden
+pub hidden_is : (f : File) (w : Filter) (m : Moment) (flat : FlatFrame) (s : SampleValue) (guest taken : Bool) → IsFlat m.config (order_of f.order) m.frame flat → guest ≡ is_guest flat.misc → taken ≡ takes_at w m flat.misc s
+    → (guest || not taken) ≡ is_hidden f w m s
+hidden_is f w m flat s guest taken states from takes =
+    let misc : flat.misc ≡ misc_at f m = states.header.misc in
+    ap (λ b. b || not taken) (from ∙ ap is_guest misc) ∙ ap (λ b. is_guest (misc_at f m) || not b) (takes ∙ ap (λ n. takes_at w m n s) misc)

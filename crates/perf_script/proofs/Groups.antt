@@ -32,7 +32,8 @@ use Rattle.perf_walk.proofs.Values.{answer_value, mapped_value}
 use Rattle.perf_script.specs.Blocks as blocks
 use Rattle.perf_script.specs.Counters.{reading_of, readings_in, readings_of}
 use Rattle.perf_script.specs.declared.readings.Reading.{Reading}
-use Rattle.perf_script.proofs.Fields.{answer_is, type_nine, fields_of}
+use Rattle.perf_walk.proofs.Fields.{type_nine, fields_of}
+use Rattle.perf_walk.proofs.Sampled.{sample_answer}
 
 -- ---- the value of a field of a table
 
@@ -104,7 +105,7 @@ sample_value : (c : Configuration) (o : Order) (frame : List ℕ) (s : SampleVal
 sample_value c o frame s f is e =
     let h = header_of o frame in
     let under : Configuration = under_misc h.misc c in
-    let found = answer_value c o frame (sample_is s) (answer_is c o frame s e) in
+    let found = answer_value c o frame (sample_is s) (sample_answer c o frame s e) in
     let type : h.type_ ≡ 9 = sym is.header.type_ ∙ type_nine c o frame s f is e in
     let made : sample_is s ≡ sample_is (value o found.0 0 (sample under)) =
     found.1 ∙ ap (λ ty. value o found.0 0 (body under ty)) type ∙ mapped_value o found.0 0 sample_is (sample under) in
@@ -270,18 +271,18 @@ counter_format c ty type there =
 
 pub format_kept : (c : Configuration) (o : Order) (frame : List ℕ) (s : SampleValue) (f : FlatFrame) → IsFlat c o frame f → sample_of c o frame ≡ Some s → has_bit f.present 4 ≡ true → f.read_format ≡ c.read_format
 format_kept c o frame s f is e there =
-    let states = (flat_record c o frame (sample_is s) f is (answer_is c o frame s e)).1.0 in
+    let states = (flat_record c o frame (sample_is s) f is (sample_answer c o frame s e)).1.0 in
     let known : has_bit (sample_present c) 4 ≡ true = ap (λ n. has_bit n 4) (sym (fields_of c o frame s f is e)) ∙ there in
     states.read_format ∙ counter_format c f.type_ (type_nine c o frame s f is e) known
 
 pub readings_group : (c : Configuration) (o : Order) (frame : List ℕ) (s : SampleValue) (f : FlatFrame) → IsFlat c o frame f → sample_of c o frame ≡ Some s → has_group c.read_format ≡ true
     → blocks.group_at o (has_counter_id c.read_format) (has_lost c.read_format) frame (span_at f.spans 2) ≡ readings_of c.read_format s
 readings_group c o frame s f is e holds =
-    let states = (flat_record c o frame (sample_is s) f is (answer_is c o frame s e)).1 in
+    let states = (flat_record c o frame (sample_is s) f is (sample_answer c o frame s e)).1 in
     counters_here c.read_format o frame (span_at f.spans 2) (getters_of s).values holds (λ g some. group_of_format c o frame s f g is e some holds) states.1.values
 
 pub readings_single : (c : Configuration) (o : Order) (frame : List ℕ) (s : SampleValue) (f : FlatFrame) → IsFlat c o frame f → sample_of c o frame ≡ Some s → has_group c.read_format ≡ false
     → blocks.single_in f.numbers ≡ readings_of c.read_format s
 readings_single c o frame s f is e fails =
-    let states = (flat_record c o frame (sample_is s) f is (answer_is c o frame s e)).1 in
+    let states = (flat_record c o frame (sample_is s) f is (sample_answer c o frame s e)).1 in
     ap blocks.single_in states.0.numbers ∙ single_numbers c.read_format s (getters_of s).values refl ∙ single_read c.read_format (getters_of s).values fails

@@ -9,8 +9,7 @@ use Rattle.perf_history.specs.declared.changes.Change.{Change}
 use Rattle.perf_walk.specs.Moments.{Moment, moments, moment_at, known_after}
 use Rattle.perf_walk.specs.Steps.{Finds, IsFrameOf}
 use Rattle.perf_walk.specs.declared.walk.Found.{Found}
-use Rattle.perf_script.specs.Labels.{EventLabel}
-use Rattle.perf_script.specs.ScriptText.{text_at, text_from, read_at, is_refused, any_refused}
+use Rattle.perf_script.specs.ScriptText.{Choice, text_at, text_from, read_at, is_refused, any_refused}
 use Rattle.perf_script.specs.declared.readings.Reading.{Reading}
 
 -- ---- what a step has found
@@ -45,19 +44,19 @@ pub known_none : (f : File) (e : Entry) (known : List Change) → moment_at f e 
 known_none f e known is = ap (λ (o : Option Moment). elim o [ Some n ↦ n.known | None ↦ known ]) is
 
 -- the text of a frame, and then that of those after it
-pub text_more : (f : File) (labels : List EventLabel) (older : List Reading) (e : Entry) (left : List Entry) (known : List Change) (m : Moment) (text grown whole : List ℕ) → moment_at f e known ≡ Some m
-    → text ++ text_from f labels older (moments f (e ∷ left) known) ≡ whole → grown ≡ text ++ text_at f labels older m
-    → grown ++ text_from f labels (read_at f older m) (moments f left (known_after f e known)) ≡ whole
-text_more f labels older e left known m text grown whole is all more =
-    let rest : List ℕ = text_from f labels (read_at f older m) (moments f left (known_after f e known)) in
-    ap (λ t. t ++ rest) more ∙ append_assoc text (text_at f labels older m) rest
-    ∙ ap (λ (o : Option Moment). text ++ text_from f labels older (cons_option o (moments f left (known_after f e known)))) (sym is) ∙ all
+pub text_more : (f : File) (c : Choice) (older : List Reading) (e : Entry) (left : List Entry) (known : List Change) (m : Moment) (text grown whole : List ℕ) → moment_at f e known ≡ Some m
+    → text ++ text_from f c older (moments f (e ∷ left) known) ≡ whole → grown ≡ text ++ text_at f c older m
+    → grown ++ text_from f c (read_at f older m) (moments f left (known_after f e known)) ≡ whole
+text_more f c older e left known m text grown whole is all more =
+    let rest : List ℕ = text_from f c (read_at f older m) (moments f left (known_after f e known)) in
+    ap (λ t. t ++ rest) more ∙ append_assoc text (text_at f c older m) rest
+    ∙ ap (λ (o : Option Moment). text ++ text_from f c older (cons_option o (moments f left (known_after f e known)))) (sym is) ∙ all
 
-pub text_none : (f : File) (labels : List EventLabel) (older : List Reading) (e : Entry) (left : List Entry) (known : List Change) (text whole : List ℕ) → moment_at f e known ≡ None
-    → text ++ text_from f labels older (moments f (e ∷ left) known) ≡ whole
-    → text ++ text_from f labels older (moments f left (known_after f e known)) ≡ whole
-text_none f labels older e left known text whole is all =
-    ap (λ (o : Option Moment). text ++ text_from f labels older (cons_option o (moments f left (known_after f e known)))) (sym is) ∙ all
+pub text_none : (f : File) (c : Choice) (older : List Reading) (e : Entry) (left : List Entry) (known : List Change) (text whole : List ℕ) → moment_at f e known ≡ None
+    → text ++ text_from f c older (moments f (e ∷ left) known) ≡ whole
+    → text ++ text_from f c older (moments f left (known_after f e known)) ≡ whole
+text_none f c older e left known text whole is all =
+    ap (λ (o : Option Moment). text ++ text_from f c older (cons_option o (moments f left (known_after f e known)))) (sym is) ∙ all
 
 -- ---- refusals
 

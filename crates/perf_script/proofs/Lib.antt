@@ -1,5 +1,5 @@
 pub mod PlainText
-pub mod Fields
+pub mod Refused
 pub mod Naming
 pub mod InTurn
 pub mod IdTables

@@ -1,14 +1,19 @@
 -- The labels of events that have names.
-use Rattle.std.proofs.Common.{◌≡◌, ℕ, suc, ◌+◌, ◌<◌, ◌≤◌, List, [], ◌∷◌, map, length, get_or, refl, sym, ap, ◌∙◌, add-zero, zero-add, arith}
-use Rattle.std.specs.List.{enumerate_from}
+use Rattle.std.proofs.Common.{◌≡◌, ℕ, suc, ◌+◌, ◌<◌, ◌≤◌, Bool, true, List, [], ◌∷◌, map, length, get_or, ◌||◌, refl, sym, ap, subst, ◌∙◌, add-zero, zero-add, arith}
+use Rattle.std.specs.List.{enumerate_from, list_any}
 use Rattle.std.proofs.lemmas.List.{get_or-map, length-map}
 use Rattle.std.proofs.Math.ListN.{get_or-eq_default}
 use Rattle.perf_file.specs.Names.{Name, name_view, name_text}
-use Rattle.perf_file.specs.Opened.{FileEvent, event_view}
+use Rattle.perf_file.specs.Opened.{File, FileEvent, event_view}
+use Rattle.perf_file.specs.Views.{view}
 use Rattle.perf_file.specs.declared.events.Event.{Event}
 use Rattle.perf_file.specs.declared.opening.Recording.{Recording}
+use Rattle.perf_walk.specs.declared.filtering.Filter.{Filter}
+use Rattle.perf_script.specs.ScriptText.{Choice, choice_by}
+use Rattle.perf_script.specs.UnderWay.{AreChosen, AreEvents}
 use Rattle.perf_script.specs.declared.labels.Label.{Label}
-use Rattle.perf_script.specs.Labels.{EventLabel, label_view, label_at, label_with, named, names_by, labels_by, own_name, own_label, own_labels, widest, AreNamedBy}
+use Rattle.perf_script.specs.declared.script.Events.{Events}
+use Rattle.perf_script.specs.Labels.{EventLabel, any_counts, label_view, label_at, label_with, named, names_by, labels_by, own_name, own_label, own_labels, widest, AreNamedBy}
 
 -- what is made of each event and its name
 own_alike : {A : Type 0} (make : List ℕ → FileEvent → A) (naming : ℕ → FileEvent → Name) (first : ℕ) (events : List Event)
@@ -29,23 +34,39 @@ from_first : (r : Recording) (naming : ℕ → FileEvent → Name) → AreNamedB
 from_first r naming named n d lt = named n d lt ∙ ap (λ k. naming k (event_view (get_or r.events.items n d))) (sym (zero-add n))
 
 -- the labels of the events of a recording
-pub own_labels_named : (r : Recording) (naming : ℕ → FileEvent → Name) → AreNamedBy r naming → own_labels r.events.items ≡ labels_by naming (map event_view r.events.items)
-own_labels_named r naming are =
+pub own_labels_named : (w : Filter) (r : Recording) (naming : ℕ → FileEvent → Name) → AreNamedBy r naming → own_labels w r.events.items ≡ labels_by w naming (map event_view r.events.items)
+own_labels_named w r naming are =
     let names : map own_name r.events.items ≡ names_by naming (map event_view r.events.items) = own_alike (λ name e. name) naming 0 r.events.items (from_first r naming are) in
-    ap (λ (all : List (List ℕ)). map (own_label (widest all)) r.events.items) names
-    ∙ own_alike (label_with (widest (names_by naming (map event_view r.events.items)))) naming 0 r.events.items (from_first r naming are)
+    ap (λ (all : List (List ℕ)). map (own_label w (widest all)) r.events.items) names
+    ∙ own_alike (label_with w (widest (names_by naming (map event_view r.events.items)))) naming 0 r.events.items (from_first r naming are)
+
+-- and the filter by which they were made
+pub chosen_by : (w : Filter) (r : Recording) (naming : ℕ → FileEvent → Name) (events : Events) → AreNamedBy r naming → AreEvents (view r) (own_labels w r.events.items) events → events.filter ≡ w
+    → AreChosen (view r) (choice_by w naming (view r).events) events
+chosen_by w r naming events named are same = record {
+  labelled = subst (λ labels. AreEvents (view r) labels events) (own_labels_named w r naming named) are;
+  filter = same;
+}
+
+-- whether samples of one of them count
+any_of : (labels : List Label) → list_any (λ (l : Label). l.counts) labels ≡ any_counts (map label_view labels)
+any_of [] = refl
+any_of (l ∷ labels) = ap (λ b. l.counts || b) (any_of labels)
+
+pub any_is : (f : File) (c : Choice) (events : Events) → AreChosen f c events → list_any (λ (l : Label). l.counts) events.labels.items ≡ any_counts c.labels
+any_is f c events chosen = any_of events.labels.items ∙ ap any_counts chosen.labelled.labels
 
 -- ---- the label of an event with a number
 
-abbrev pub label_record : (text : List ℕ) (period : ℕ) → EventLabel
-label_record text period = record { text = text; period = period }
+abbrev pub label_record : (text : List ℕ) (period : ℕ) (counts : Bool) → EventLabel
+label_record text period counts = record { text = text; period = period; counts = counts }
 
 pub label_found : (list : List Label) (n : ℕ) (l : Label) (text : List ℕ) → n < length list → l ≡ get_or list n l → text ≡ l.text.items
-    → label_record text l.period ≡ label_at (map label_view list) n
+    → label_record text l.period l.counts ≡ label_at (map label_view list) n
 label_found list n l text lt is same =
-    ap (λ t. label_record t l.period) same ∙ ap label_view is ∙ sym (get_or-map label_view list n l (label_record [] 0) lt)
+    ap (λ t. label_record t l.period l.counts) same ∙ ap label_view is ∙ sym (get_or-map label_view list n l (label_record [] 0 true) lt)
 
-pub label_absent : (list : List Label) (n : ℕ) → length list ≤ n → label_record [] 0 ≡ label_at (map label_view list) n
+pub label_absent : (list : List Label) (n : ℕ) → length list ≤ n → label_record [] 0 true ≡ label_at (map label_view list) n
 label_absent list n over =
     let long : length (map label_view list) ≤ n = omega (arith, over, length-map list label_view) in
-    sym (get_or-eq_default (map label_view list) (label_record [] 0) long)
+    sym (get_or-eq_default (map label_view list) (label_record [] 0 true) long)

@@ -1,5 +1,5 @@
 -- Texts do not depend on where byte strings are.
-use Rattle.std.proofs.Common.{◌≡◌, ℕ, List, [], ◌∷◌, ◌++◌, ◌==◌, not, map, refl, sym, ◌∙◌, ap, codes, if◌then◌else◌}
+use Rattle.std.proofs.Common.{◌≡◌, ℕ, List, [], ◌∷◌, ◌++◌, ◌==◌, ◌||◌, not, map, refl, sym, ◌∙◌, ap, codes, if◌then◌else◌}
 use Rattle.std.specs.Prelude.{Option, Some, None, option_map}
 use Rattle.perf_file.specs.declared.ids.IdOfEvent.{IdOfEvent}
 use Rattle.perf_file.specs.IdTables.{event_of}
@@ -21,7 +21,7 @@ use Rattle.perf_script.specs.Threads.{thread_name, name_width}
 use Rattle.perf_script.specs.Files.{file_name, place_name, shown_address}
 use Rattle.perf_script.specs.Chains.{placed_line, call_line, call_lines}
 use Rattle.perf_script.specs.Counters.{counters_text, counter_text, moved_text}
-use Rattle.perf_script.specs.Labels.{EventLabel, label_at}
+use Rattle.perf_script.specs.Labels.{EventLabel, label_at, with_period}
 use Rattle.perf_script.specs.Moved.{moved}
 use Rattle.perf_script.specs.SampleText.{Shown, text_if, is_chained, head_columns, cpu_column_if, time_column_if, code_columns_if, address_columns, chain_lines, event_columns, own_text, sample_text}
 use Rattle.perf_script.specs.ScriptText.{plain_text, shown_text, period_of, has_counters}
@@ -106,13 +106,13 @@ own_same label period changes s =
     ap (λ head. head ++ (event_columns label period ++ (code_columns_if (map plain changes) s ++ codes "\n"))) (head_same changes s)
     ∙ ap (λ code. head_columns changes s ++ (event_columns label period ++ (code ++ codes "\n"))) (code_same changes s)
 
-sample_same : (label : List ℕ) (period : ℕ) (changes : List Change) (s : Shown) → sample_text label period (map plain changes) s ≡ sample_text label period changes s
-sample_same label period changes s = ap (λ t. if s.guest then [] else t) (own_same label period changes s)
+sample_same : (l : EventLabel) (changes : List Change) (s : Shown) → sample_text l (map plain changes) s ≡ sample_text l changes s
+sample_same l changes s = ap (λ t. if s.hidden || not l.counts then [] else t) (own_same l.text l.period changes s)
 
 -- ---- counters
 
 moved_same : (labels : List EventLabel) (changes : List Change) (s : Shown) (event : Option ℕ) (far : ℕ) → moved_text labels (map plain changes) s event far ≡ moved_text labels changes s event far
-moved_same labels changes s (Some n) far = ap (text_if (not (far == 0))) (sample_same (label_at labels n).text far changes s)
+moved_same labels changes s (Some n) far = ap (text_if (not (far == 0))) (sample_same (with_period (label_at labels n) far) changes s)
 moved_same labels changes s None far = refl
 
 counters_same : (labels : List EventLabel) (ids : List IdOfEvent) (changes : List Change) (s : Shown) (older readings : List Reading)
@@ -126,4 +126,4 @@ pub shown_same : (labels : List EventLabel) (ids : List IdOfEvent) (older readin
     → shown_text labels ids older readings event (map plain changes) s ≡ shown_text labels ids older readings event changes s
 shown_same labels ids older readings event changes s =
     ap (λ t. if has_counters s then t else plain_text labels event (map plain changes) s) (counters_same labels ids changes s older readings)
-    ∙ ap (λ t. if has_counters s then counters_text labels ids changes s older readings else t) (sample_same (label_at labels event).text (period_of (label_at labels event) s) changes s)
+    ∙ ap (λ t. if has_counters s then counters_text labels ids changes s older readings else t) (sample_same (with_period (label_at labels event) (period_of (label_at labels event) s)) changes s)

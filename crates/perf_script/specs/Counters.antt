@@ -9,7 +9,7 @@ use Rattle.perf_sample_types.specs.SampleGetters.{getters_of}
 use Rattle.perf_types.specs.ReadFormat.{has_group}
 use Rattle.perf_types.specs.ReadGroup.{GroupRead, only_entry}
 use Rattle.perf_types.specs.declared.group_entry.GroupEntry.{GroupEntry}
-use Rattle.perf_script.specs.Labels.{EventLabel, label_at}
+use Rattle.perf_script.specs.Labels.{EventLabel, label_at, with_period}
 use Rattle.perf_script.specs.Moved.{moved}
 use Rattle.perf_script.specs.SampleText.{Shown, sample_text, text_if}
 use Rattle.perf_script.specs.declared.readings.Reading.{Reading}
@@ -29,7 +29,7 @@ readings_of read_format s = elim (getters_of s).values [ Some read ↦ readings_
 
 -- the text of a counter that moved so far, under the label of its own event
 abbrev pub moved_text : List EventLabel → List Change → Shown → (event : Option ℕ) → (far : ℕ) → List ℕ
-moved_text labels known s (Some n) far = text_if (not (far == 0)) (sample_text (label_at labels n).text far known s)
+moved_text labels known s (Some n) far = text_if (not (far == 0)) (sample_text (with_period (label_at labels n) far) known s)
 moved_text labels known s None far = []
 
 -- that of a counter, before which these were read

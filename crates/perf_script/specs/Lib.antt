@@ -13,4 +13,5 @@ pub mod Counters
 pub mod Counted
 pub mod ScriptText
 pub mod UnderWay
+pub mod Messages
 pub mod Written

@@ -1,5 +1,5 @@
 -- The text of a sample.
-use Rattle.std.specs.Prelude.{ℕ, Bool, ◌&&◌, List, [], ◌++◌, codes, if◌then◌else◌}
+use Rattle.std.specs.Prelude.{ℕ, Bool, ◌&&◌, ◌||◌, not, List, [], ◌++◌, codes, if◌then◌else◌}
 use Rattle.perf_history.specs.Histories.{name_of, place_of}
 use Rattle.perf_history.specs.declared.changes.Change.{Change}
 use Rattle.perf_walk.specs.declared.calls.Call.{Call}
@@ -9,12 +9,13 @@ use Rattle.perf_script.specs.Columns.{address_column, task_column, cpu_column, t
 use Rattle.perf_script.specs.Threads.{name_column}
 use Rattle.perf_script.specs.Files.{place_column}
 use Rattle.perf_script.specs.Chains.{call_lines}
+use Rattle.perf_script.specs.Labels.{EventLabel}
 
--- What is shown of a sample: which fields it has, by the bits of a sample type, whether it was taken in
--- a guest, its values, and the calls of its chain.
+-- What is shown of a sample: which fields it has, by the bits of a sample type, whether it has no text,
+-- its values, and the calls of its chain.
 pub record Shown : Type 0 where
   pub fields : ℕ
-  pub guest : Bool
+  pub hidden : Bool
   pub sample : Sample
   pub calls : List Call
 
@@ -71,11 +72,12 @@ event_columns label period = period_column period ++ label
 abbrev pub end_columns : List Change → Shown → List ℕ
 end_columns known s = code_columns_if known s ++ codes "\n"
 
--- the text of a sample of the machine itself, with the label of its event, and a period
+-- the text of a sample that is not hidden, with the label of its event, and a period
 abbrev pub own_text : (label : List ℕ) → (period : ℕ) → List Change → Shown → List ℕ
 own_text label period known s =
     head_columns known s ++ (event_columns label period ++ end_columns known s)
 
--- the text of a sample: those of guests have none
-abbrev pub sample_text : (label : List ℕ) → (period : ℕ) → List Change → Shown → List ℕ
-sample_text label period known s = if s.guest then [] else own_text label period known s
+-- the text of a sample under the label of its event: there is none if it is hidden, or samples of the
+-- event do not count
+abbrev pub sample_text : EventLabel → List Change → Shown → List ℕ
+sample_text l known s = if s.hidden || not l.counts then [] else own_text l.text l.period known s

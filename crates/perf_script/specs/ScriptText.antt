@@ -1,5 +1,5 @@
 -- The text of a recording.
-use Rattle.std.specs.Prelude.{◌≡◌, ℕ, ◌%◌, ◌==◌, ◌||◌, Bool, List, [], ◌∷◌, ◌++◌, is_err, Option, Some, None, if◌then◌else◌}
+use Rattle.std.specs.Prelude.{◌≡◌, ℕ, ◌%◌, ◌==◌, ◌||◌, not, Bool, false, List, [], ◌∷◌, ◌++◌, is_err, Option, Some, None, if◌then◌else◌}
 use Rattle.std.specs.List.{list_any}
 use Rattle.perf_base.specs.Configuration.{Configuration}
 use Rattle.perf_base.specs.Dynamic.{order_of}
@@ -15,11 +15,13 @@ use Rattle.perf_history.specs.declared.changes.Change.{Change}
 use Rattle.perf_records.specs.Answers.{answer_of_frame}
 use Rattle.perf_sample_types.specs.Sample.{SampleValue}
 use Rattle.perf_walk.specs.Calls.{calls_of}
+use Rattle.perf_walk.specs.Filters.{takes_at}
 use Rattle.perf_walk.specs.Moments.{Moment, moments}
 use Rattle.perf_walk.specs.Samples.{sample_of, sample_view}
+use Rattle.perf_walk.specs.declared.filtering.Filter.{Filter}
 use Rattle.perf_words.specs.Bits.{has_bit}
 use Rattle.perf_script.specs.Counters.{readings_of, counters_text, read_after}
-use Rattle.perf_script.specs.Labels.{EventLabel, label_at, labels_by}
+use Rattle.perf_script.specs.Labels.{EventLabel, label_at, labels_by, with_period}
 use Rattle.perf_script.specs.SampleText.{Shown, sample_text}
 use Rattle.perf_script.specs.declared.readings.Reading.{Reading}
 
@@ -28,8 +30,8 @@ abbrev pub is_guest : (misc : ℕ) → Bool
 is_guest misc = misc % 8 == 4 || misc % 8 == 5
 
 -- what is shown of a sample whose frame has this misc
-abbrev pub shown_of : Configuration → (misc : ℕ) → SampleValue → Shown
-shown_of c misc s = record { fields = sample_present c; guest = is_guest misc; sample = sample_view misc s; calls = calls_of s }
+abbrev pub shown_of : Configuration → (misc : ℕ) → (hidden : Bool) → SampleValue → Shown
+shown_of c misc hidden s = record { fields = sample_present c; hidden = hidden; sample = sample_view misc s; calls = calls_of s }
 
 -- the period of a sample: its own, or that of its event
 abbrev pub period_of : EventLabel → Shown → ℕ
@@ -38,7 +40,7 @@ period_of label s = if has_bit s.fields 8 then s.sample.period else label.period
 -- the text of a sample by itself
 abbrev pub plain_text : List EventLabel → (event : ℕ) → List Change → Shown → List ℕ
 plain_text labels event known s =
-    sample_text (label_at labels event).text (period_of (label_at labels event) s) known s
+    sample_text (with_period (label_at labels event) (period_of (label_at labels event) s)) known s
 
 -- whether a sample reads counters
 abbrev pub has_counters : Shown → Bool
@@ -59,25 +61,39 @@ read_by older readings s = if has_counters s then read_after older readings else
 abbrev pub sample_at : File → Moment → Option SampleValue
 sample_at f m = sample_of m.config (order_of f.order) m.frame
 
--- what is shown of it
-abbrev pub shown_at : File → Moment → SampleValue → Shown
-shown_at f m s = shown_of m.config (header_of (order_of f.order) m.frame).misc s
+-- the misc of a frame
+abbrev pub misc_at : File → Moment → ℕ
+misc_at f m = (header_of (order_of f.order) m.frame).misc
+
+-- what is shown of a sample in a frame
+abbrev pub shown_at : File → Moment → (hidden : Bool) → SampleValue → Shown
+shown_at f m hidden s = shown_of m.config (misc_at f m) hidden s
+
+-- How a text is made of a recording: how its events are labelled, and which samples count.
+pub record Choice : Type 0 where
+  pub labels : List EventLabel
+  pub filter : Filter
+
+-- whether a sample has no text: it was taken in a guest, or does not count
+abbrev pub is_hidden : File → Filter → Moment → SampleValue → Bool
+is_hidden f w m s = is_guest (misc_at f m) || not (takes_at w m (misc_at f m) s)
 
 -- the text of the sample in a frame, if there is one
-abbrev pub text_at : File → List EventLabel → (older : List Reading) → Moment → List ℕ
-text_at f labels older m = elim (sample_at f m) [
-  | Some s ↦ shown_text labels (table_of f.events) older (readings_of m.config.read_format s) m.event m.known (shown_at f m s)
+abbrev pub text_at : File → Choice → (older : List Reading) → Moment → List ℕ
+text_at f c older m = elim (sample_at f m) [
+  | Some s ↦
+      shown_text c.labels (table_of f.events) older (readings_of m.config.read_format s) m.event m.known (shown_at f m (is_hidden f c.filter m s) s)
   | None ↦ []
 ]
 
--- the counters that were read by the end of a frame
+-- the counters that were read by the end of a frame, whether its sample is hidden or not
 abbrev pub read_at : File → (older : List Reading) → Moment → List Reading
-read_at f older m = elim (sample_at f m) [ Some s ↦ read_by older (readings_of m.config.read_format s) (shown_at f m s) | None ↦ older ]
+read_at f older m = elim (sample_at f m) [ Some s ↦ read_by older (readings_of m.config.read_format s) (shown_at f m false s) | None ↦ older ]
 
 -- the text of frames, before which these counters were read
-abbrev pub text_from : File → List EventLabel → (older : List Reading) → List Moment → List ℕ
-text_from f labels older [] = []
-text_from f labels older (m ∷ ms) = text_at f labels older m ++ text_from f labels (read_at f older m) ms
+abbrev pub text_from : File → Choice → (older : List Reading) → List Moment → List ℕ
+text_from f c older [] = []
+text_from f c older (m ∷ ms) = text_at f c older m ++ text_from f c (read_at f older m) ms
 
 -- whether a frame is refused
 abbrev pub is_refused : File → Moment → Bool
@@ -88,11 +104,15 @@ abbrev pub any_refused : File → List Moment → Bool
 any_refused f ms = list_any (is_refused f) ms
 
 -- the text of the frames of these entries, of which some are refused or none
-abbrev pub IsTextOf : File → List EventLabel → List Entry → (refused : Bool) → List ℕ → Type 0
-IsTextOf f labels entries refused text =
-    (refused ≡ any_refused f (moments f entries [])) × (text ≡ text_from f labels [] (moments f entries []))
+abbrev pub IsTextOf : File → Choice → List Entry → (refused : Bool) → List ℕ → Type 0
+IsTextOf f c entries refused text =
+    (refused ≡ any_refused f (moments f entries [])) × (text ≡ text_from f c [] (moments f entries []))
+
+-- what is chosen by a filter, where events are named so
+abbrev pub choice_by : Filter → (naming : ℕ → FileEvent → Name) → List FileEvent → Choice
+choice_by w naming events = record { labels = labels_by w naming events; filter = w }
 
 -- the text of a file: that of its frames by time, and at equal times by place
-abbrev pub IsText : File → (naming : ℕ → FileEvent → Name) → (refused : Bool) → List ℕ → Type 0
-IsText f naming refused text =
-    (entries : List Entry) × IsInOrder (entries_of f) entries × IsTextOf f (labels_by naming f.events) entries refused text
+abbrev pub IsText : Filter → File → (naming : ℕ → FileEvent → Name) → (refused : Bool) → List ℕ → Type 0
+IsText w f naming refused text =
+    (entries : List Entry) × IsInOrder (entries_of f) entries × IsTextOf f (choice_by w naming f.events) entries refused text

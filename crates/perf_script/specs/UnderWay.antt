@@ -17,7 +17,7 @@ use Rattle.perf_script.specs.Counters.{readings_of}
 use Rattle.perf_script.specs.Ids.{finds}
 use Rattle.perf_script.specs.Labels.{EventLabel, label_view}
 use Rattle.perf_script.specs.SampleText.{Shown}
-use Rattle.perf_script.specs.ScriptText.{text_at, text_from, read_at, is_refused, any_refused}
+use Rattle.perf_script.specs.ScriptText.{Choice, text_at, text_from, read_at, is_refused, any_refused}
 use Rattle.perf_script.specs.declared.readings.Reading.{Reading}
 use Rattle.perf_script.specs.declared.script.Events.{Events}
 use Rattle.perf_script.specs.declared.script.Script.{Script}
@@ -28,9 +28,14 @@ pub record AreEvents (f : File) (all : List EventLabel) (events : Events) : Type
   pub labels : map label_view events.labels.items ≡ all
   pub ids : (id : ℕ) → finds events.ids id ≡ event_of (table_of f.events) id
 
+-- the same, and these samples count
+pub record AreChosen (f : File) (c : Choice) (events : Events) : Type 0 where
+  pub labelled : AreEvents f c.labels events
+  pub filter : events.filter ≡ c.filter
+
 -- what is shown of a sample by the parts that were found
-abbrev pub shown_by : State → (fields : ℕ) → (guest : Bool) → Sample → Shown
-shown_by state fields guest sample = record { fields = fields; guest = guest; sample = sample; calls = state.calls.items }
+abbrev pub shown_by : State → (fields : ℕ) → (hidden : Bool) → Sample → Shown
+shown_by state fields hidden sample = record { fields = fields; hidden = hidden; sample = sample; calls = state.calls.items }
 
 -- the parts of a sample were found
 pub record HasParts (read_format : ℕ) (s : SampleValue) (fields : ℕ) (state : State) : Type 0 where
@@ -46,17 +51,17 @@ pub record IsBegun (r : Recording) (script : Script) : Type 0 where
   pub refused : script.refused ≡ false
 
 -- the text of a frame was appended to one
-pub record Pushes (f : File) (labels : List EventLabel) (m : Moment) (older : List Reading) (old new : Script) : Type 0 where
+pub record Pushes (f : File) (c : Choice) (m : Moment) (older : List Reading) (old new : Script) : Type 0 where
   pub counted : IsCounted new.state.known (read_at f older m)
-  pub text : new.text.items ≡ old.text.items ++ text_at f labels older m
+  pub text : new.text.items ≡ old.text.items ++ text_at f c older m
   pub refused : new.refused ≡ (old.refused || is_refused f m)
 
 -- the frames of these entries are left of a text, and of the question whether any is refused
-pub record IsUnderWay (f : File) (labels : List EventLabel) (left : List Entry) (any : Bool) (whole : List ℕ) (script : Script) : Type 0 where
+pub record IsUnderWay (f : File) (c : Choice) (left : List Entry) (any : Bool) (whole : List ℕ) (script : Script) : Type 0 where
   pub known : List Change
   pub older : List Reading
   pub recording : view script.walk.recording.now ≡ f
   pub past : IsPast script.walk.history known
   pub counted : IsCounted script.state.known older
-  pub text : script.text.items ++ text_from f labels older (moments f left known) ≡ whole
+  pub text : script.text.items ++ text_from f c older (moments f left known) ≡ whole
   pub refused : (script.refused || any_refused f (moments f left known)) ≡ any

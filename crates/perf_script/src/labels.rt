@@ -5,6 +5,7 @@ ghost use Rattle.perf_script.specs.Labels as labels;
 
 use crate::columns::push_right;
 use perf_file::{Event, Recording};
+use perf_walk::Filter;
 use std::alloc::{AllocError, Global};
 
 /// How an event is labelled.
@@ -14,6 +15,8 @@ pub struct Label {
     pub text: Vec<u8>,
     /// The period of its samples that contain none: that of its attribute.
     pub period: u64,
+    /// Whether its samples count.
+    pub counts: bool,
 }
 
 // The name of an event.
@@ -46,11 +49,10 @@ fn width_of(alloc: Global, events: &[Event<'_>]) -> Result<usize, AllocError>
     Ok(width)
 }
 
-// The text of the label of an event, with names in a column of a width.
-fn label_text(alloc: Global, event: &Event<'_>, width: usize) -> Result<Vec<u8>, AllocError>
-    ensures { IfOk result (λ text. text.items ≡ labels.label width (labels.own_name event.now)) }
+// The text of the label of an event with this name, with names in a column of a width.
+fn label_text(alloc: Global, name: &str, width: usize) -> Result<Vec<u8>, AllocError>
+    ensures { IfOk result (λ text. text.items ≡ labels.label width name.now) }
 {
-    let name = name_of(alloc, event)?;
     let mut text = Vec::new(alloc);
     push_right(&mut text, width, name.as_bytes())?;
     text.extend_from_slice(b": ")?;
@@ -58,33 +60,49 @@ fn label_text(alloc: Global, event: &Event<'_>, width: usize) -> Result<Vec<u8>,
 }
 
 // The label of an event, with names in a column of a width.
-fn label_of(alloc: Global, event: &Event<'_>, width: usize) -> Result<Label, AllocError>
-    ensures { IfOk result (λ l. labels.label_view l ≡ labels.own_label width event.now) }
+fn label_of(
+    alloc: Global,
+    filter: &Filter<'_>,
+    event: &Event<'_>,
+    width: usize,
+) -> Result<Label, AllocError>
+    ensures { IfOk result (λ l. labels.label_view l ≡ labels.own_label filter.now width event.now) }
 {
+    let name = name_of(alloc, event)?;
     Ok(Label {
-        text: label_text(alloc, event, width)?,
+        text: label_text(alloc, &name, width)?,
         period: event.attr().sample_period,
+        counts: filter.takes_event(name.as_bytes()),
     })
 }
 
 // Those of events, with names in a column of a width.
-fn labels_with(alloc: Global, events: &[Event<'_>], width: usize) -> Result<Vec<Label>, AllocError>
+fn labels_with(
+    alloc: Global,
+    filter: &Filter<'_>,
+    events: &[Event<'_>],
+    width: usize,
+) -> Result<Vec<Label>, AllocError>
     ensures { IfOk result (λ v. map labels.label_view v.items
-        ≡ map (labels.own_label width) events.now) }
+        ≡ map (labels.own_label filter.now width) events.now) }
 {
     let mut list = Vec::new(alloc);
     for event in events {
-        list.push(label_of(alloc, event, width)?)?;
+        list.push(label_of(alloc, filter, event, width)?)?;
     }
     Ok(list)
 }
 
-/// The labels of the events of a recording, in their order.
-pub fn labels_of(alloc: Global, recording: &Recording<'_>) -> Result<Vec<Label>, AllocError>
+/// The labels of the events of a recording, in their order, by a filter of their samples.
+pub fn labels_of(
+    alloc: Global,
+    filter: &Filter<'_>,
+    recording: &Recording<'_>,
+) -> Result<Vec<Label>, AllocError>
     ensures { IfOk result (λ v. map labels.label_view v.items
-        ≡ labels.own_labels recording.now.events.items) }
+        ≡ labels.own_labels filter.now recording.now.events.items) }
 {
     let events = recording.events();
     let width = width_of(alloc, events)?;
-    labels_with(alloc, events, width)
+    labels_with(alloc, filter, events, width)
 }

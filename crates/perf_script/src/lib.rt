@@ -3,6 +3,7 @@
 
 mod chains;
 mod columns;
+mod error;
 mod files;
 mod ids;
 mod labels;
@@ -12,9 +13,10 @@ mod samples;
 mod script;
 mod threads;
 
+pub use error::ScriptError;
 pub use ids::Ids;
 pub use labels::{Label, labels_of};
 pub use readings::{Counters, Reading, push_readings};
-pub use run::write_script;
+pub use run::{status_after, write_script};
 pub use samples::{Heading, Sampled, push_sample};
 pub use script::text_of;

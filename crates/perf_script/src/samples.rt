@@ -4,6 +4,7 @@ ghost use Rattle.std.specs.Prelude.{◌≡◌, ◌++◌, ◌<◌, OnOk, List, �
 ghost use Rattle.perf_history.specs.Recorded.{IsHistory};
 ghost use Rattle.perf_history.specs.declared.changes.Change.{Change};
 ghost use Rattle.perf_words.specs.Bits.{has_bit};
+ghost use Rattle.perf_script.specs.Headings.{heading_view};
 ghost use Rattle.perf_script.specs.SampleText as samples;
 ghost use Rattle.perf_script.specs.Seen.{shown_in};
 
@@ -20,8 +21,8 @@ use std::alloc::AllocError;
 pub struct Sampled<'a> {
     /// Which fields it has, `PERF_SAMPLE_*`.
     pub fields: u64,
-    /// Whether it was taken in a guest.
-    pub guest: bool,
+    /// Whether it has no text, as it was taken in a guest, or does not count.
+    pub hidden: bool,
     /// Their values.
     pub sample: Sample,
     /// The calls of its chain, the innermost first.
@@ -199,6 +200,8 @@ pub struct Heading<'a> {
     pub label: &'a [u8],
     /// How many of its occurrences the sample stands for.
     pub period: u64,
+    /// Whether its samples count.
+    pub counts: bool,
 }
 
 // Appends the period, and the label of the event.
@@ -224,7 +227,7 @@ fn push_end(
     text.extend_from_slice(b"\n")
 }
 
-// Appends the text of a sample of the machine itself, with a heading.
+// Appends the text of a sample that is not hidden, with a heading.
 fn push_own(
     text: &mut Vec<u8>,
     heading: Heading<'_>,
@@ -240,8 +243,8 @@ fn push_own(
     push_end(text, history, shown)
 }
 
-/// Appends the text of a sample, with a heading. Those of guests have none, as `perf script` leaves them
-/// out.
+/// Appends the text of a sample, with a heading. Those that are hidden have none, and those of events
+/// whose samples do not count.
 pub fn push_sample(
     text: &mut Vec<u8>,
     heading: Heading<'_>,
@@ -250,9 +253,9 @@ pub fn push_sample(
 ) -> Result<(), AllocError>
     ensures { (changes : List Change) → IsHistory history.now changes →
         OnOk result (text.new.items ≡ text.old.items ++ samples.sample_text
-        heading.entry.label.now heading.entry.period changes (shown_in shown.now)) }
+        (heading_view heading.entry) changes (shown_in shown.now)) }
 {
-    if shown.guest {
+    if shown.hidden || !heading.counts {
         return Ok(());
     }
     push_own(text, heading, history, shown)

@@ -1,5 +1,6 @@
 //! The text of a recording.
 
+ghost use Rattle.std.specs.List.{list_any};
 ghost use Rattle.std.specs.Prelude.{◌≡◌, ◌<◌, ◌≤◌, ◌++◌, ◌∷◌, ℕ, Bool, [], Some, IfOk, OnOk, List, MatchOption, length, map, slice_index_or};
 ghost use Rattle.perf_base.specs.Configuration.{Configuration};
 ghost use Rattle.perf_base.specs.Dynamic.{order_of};
@@ -12,8 +13,9 @@ ghost use Rattle.perf_flat.specs.Flat.{IsFlat};
 ghost use Rattle.perf_sample_types.specs.Sample.{SampleValue};
 ghost use Rattle.perf_walk.specs.Moments.{Moment};
 ghost use Rattle.perf_walk.specs.Plain.{IsPast};
-ghost use Rattle.perf_walk.specs.Samples.{sample_of};
+ghost use Rattle.perf_walk.specs.Samples.{sample_of, sample_view};
 ghost use Rattle.perf_walk.specs.Steps.{IsFrameOf};
+ghost use Rattle.perf_walk.specs.declared.filtering.Filter as filters;
 ghost use Rattle.perf_script.specs.Counted.{IsCounted};
 ghost use Rattle.perf_script.specs.Counters as counters;
 ghost use Rattle.perf_script.specs.Headings.{heading_view};
@@ -21,7 +23,7 @@ ghost use Rattle.perf_script.specs.Ids.{finds};
 ghost use Rattle.perf_script.specs.Labels as labels;
 ghost use Rattle.perf_script.specs.ScriptText as script;
 ghost use Rattle.perf_script.specs.Seen.{shown_in};
-ghost use Rattle.perf_script.specs.UnderWay.{AreEvents, IsUnderWay, IsBegun, HasParts, Pushes, shown_by};
+ghost use Rattle.perf_script.specs.UnderWay.{AreChosen, AreEvents, IsUnderWay, IsBegun, HasParts, Pushes, shown_by};
 
 use crate::ids::Ids;
 use crate::labels::{Label, labels_of};
@@ -31,7 +33,7 @@ use perf_base::endian::Dynamic;
 use perf_file::{Entry, Recording};
 use perf_flat::frame::FlatFrame;
 use perf_history::History;
-use perf_walk::{Call, Found, Sample, Walk, push_calls, sample_in};
+use perf_walk::{Call, Filter, Found, Sample, Walk, push_calls, sample_in};
 use std::alloc::{AllocError, Global};
 
 // The flags of fields.
@@ -39,23 +41,37 @@ const READ: u32 = 4;
 
 const PERIOD: u32 = 8;
 
-// The events of a recording.
+// The events of a recording, and a filter of samples.
 #[derive(Drop)]
-pub struct Events {
+pub struct Events<'a> {
     labels: Vec<Label>,
     ids: Ids,
+    filter: Filter<'a>,
 }
 
-impl Events {
+impl<'a> Events<'a> {
     // The events of a recording.
-    fn of(alloc: Global, recording: &Recording<'_>) -> Result<Events, AllocError>
-        ensures { IfOk result (AreEvents (view recording.now)
-            (labels.own_labels recording.now.events.items)) }
+    pub(crate) fn of(
+        alloc: Global,
+        filter: Filter<'a>,
+        recording: &Recording<'_>,
+    ) -> Result<Events<'a>, AllocError>
+        ensures events { IfOk result (AreEvents (view recording.now)
+            (labels.own_labels filter.entry recording.now.events.items)) }
+        ensures filter { IfOk result (λ events. events.filter ≡ filter.entry) }
     {
         Ok(Events {
-            labels: labels_of(alloc, recording)?,
+            labels: labels_of(alloc, &filter, recording)?,
             ids: Ids::of(alloc, recording)?,
+            filter,
         })
+    }
+
+    // Whether samples of one of the events count.
+    pub(crate) fn any_counts(&self) -> bool
+        ensures { result ≡ list_any (λ label. label.counts) self.now.labels.items }
+    {
+        self.labels.iter().any(|label| label.counts)
     }
 }
 
@@ -75,11 +91,24 @@ fn heading_of(list: &[Label], event: usize) -> Heading<'_>
         Some(label) => Heading {
             label: &label.text,
             period: label.period,
+            counts: label.counts,
         },
         None => Heading {
             label: &[],
             period: 0,
+            counts: true,
         },
+    }
+}
+
+// A heading with a period.
+fn with_period(heading: Heading<'_>, period: u64) -> Heading<'_>
+    ensures { heading_view result ≡ labels.with_period (heading_view heading.entry) period }
+{
+    Heading {
+        label: heading.label,
+        period,
+        counts: heading.counts,
     }
 }
 
@@ -108,8 +137,7 @@ fn push_plain(
 {
     let heading = heading_of(list, event);
     let period = period_of(heading, shown);
-    let label = heading.label;
-    push_sample(text, Heading { label, period }, history, shown)
+    push_sample(text, with_period(heading, period), history, shown)
 }
 
 // Appends the text of a counter of an event that moved so far, if it moved.
@@ -128,14 +156,14 @@ fn push_moved(
     if far == 0 {
         return Ok(());
     }
-    let label = heading_of(list, event).label;
-    push_sample(text, Heading { label, period: far }, history, shown)
+    let heading = heading_of(list, event);
+    push_sample(text, with_period(heading, far), history, shown)
 }
 
 // Appends the text of a counter with an id that moved so far.
 fn push_counter(
     text: &mut Vec<u8>,
-    events: &Events,
+    events: &Events<'_>,
     id: u64,
     far: u64,
     history: &History<'_>,
@@ -155,7 +183,7 @@ fn push_counter(
 // Appends the texts of the counters that a sample has read.
 fn push_counters(
     text: &mut Vec<u8>,
-    events: &Events,
+    events: &Events<'_>,
     known: &mut Counters,
     readings: &[Reading],
     history: &History<'_>,
@@ -185,7 +213,7 @@ pub struct State {
 // Appends the text of a sample whose calls and readings are found.
 fn push_shown(
     text: &mut Vec<u8>,
-    events: &Events,
+    events: &Events<'_>,
     known: &mut Counters,
     event: usize,
     readings: &[Reading],
@@ -231,24 +259,24 @@ fn find_parts(
 // Appends the text of a sample in a frame.
 fn push_parts(
     text: &mut Vec<u8>,
-    events: &Events,
+    events: &Events<'_>,
     state: &mut State,
     event: usize,
     history: &History<'_>,
     fields: u64,
-    guest: bool,
+    hidden: bool,
     sample: Sample,
 ) -> Result<(), AllocError>
     ensures { (f : File) (all : List labels.EventLabel) (changes : List Change)
         (older : List Reading) → AreEvents f all events.now → IsHistory history.now changes →
         IsCounted state.old.known older → OnOk result (IsCounted state.new.known
-        (script.read_by older state.old.readings.items (shown_by state.old fields guest sample))
+        (script.read_by older state.old.readings.items (shown_by state.old fields hidden sample))
         × (text.new.items ≡ text.old.items ++ script.shown_text all (table_of f.events) older
-        state.old.readings.items event changes (shown_by state.old fields guest sample))) }
+        state.old.readings.items event changes (shown_by state.old fields hidden sample))) }
 {
     let shown = Sampled {
         fields,
-        guest,
+        hidden,
         sample,
         calls: &state.calls,
     };
@@ -271,26 +299,39 @@ fn is_guest(misc: u16) -> bool
     misc % 8 == 4 || misc % 8 == 5
 }
 
-// Appends the text of the sample in a frame, if there is one.
+// Whether the sample of the frame that was found last has no text.
+fn is_hidden(filter: &Filter<'_>, walk: &Walk<'_, '_>, sample: &Sample) -> bool
+    ensures { (f : File) (m : Moment) (s : SampleValue) (found : Found) →
+        IsFrameOf f m found walk.now.frame → IsPast walk.now.history m.known →
+        sample_of m.config (order_of f.order) m.frame ≡ Some s →
+        sample.now ≡ sample_view walk.now.frame.misc s →
+        result ≡ script.is_hidden f filter.now m s }
+{
+    let taken = walk.takes(filter, sample);
+    is_guest(walk.frame().misc) || !taken
+}
+
+// Appends the text of the sample in the frame that was found last, if there is one.
 fn push_found(
     text: &mut Vec<u8>,
-    events: &Events,
+    events: &Events<'_>,
     state: &mut State,
-    order: Dynamic,
     found: &Found<'_>,
-    history: &History<'_>,
-    frame: &FlatFrame,
+    walk: &Walk<'_, '_>,
 ) -> Result<(), AllocError>
-    ensures { (f : File) (all : List labels.EventLabel) (m : Moment) (older : List Reading) →
-        order ≡ f.order → AreEvents f all events.now → IsFrameOf f m found.now frame.now →
-        IsPast history.now m.known → IsCounted state.old.known older →
-        OnOk result (IsCounted state.new.known (script.read_at f older m)
-        × (text.new.items ≡ text.old.items ++ script.text_at f all older m)) }
+    ensures { (f : File) (c : script.Choice) (m : Moment) (older : List Reading) →
+        view walk.now.recording.now ≡ f → AreChosen f c events.now →
+        IsFrameOf f m found.now walk.now.frame → IsPast walk.now.history m.known →
+        IsCounted state.old.known older → OnOk result (IsCounted state.new.known (script.read_at f older m)
+        × (text.new.items ≡ text.old.items ++ script.text_at f c older m)) }
 {
+    let frame = walk.frame();
     let Some(sample) = sample_in(frame) else {
         return Ok(());
     };
-    find_parts(state, order, found.bytes, frame)?;
+    find_parts(state, walk.recording().order(), found.bytes, frame)?;
+    let hidden = is_hidden(&events.filter, walk, &sample);
+    let history = walk.history();
     push_parts(
         text,
         events,
@@ -298,7 +339,7 @@ fn push_found(
         found.event,
         history,
         frame.present,
-        is_guest(frame.misc),
+        hidden,
         sample,
     )
 }
@@ -337,31 +378,23 @@ impl<'a, 'p> Script<'a, 'p> {
     }
 
     // Appends the text of the frame that was found last.
-    fn push(&mut self, events: &Events, found: &Found<'_>) -> Result<(), AllocError>
-        ensures pushes { (f : File) (all : List labels.EventLabel) (m : Moment) (older : List Reading) →
-            view self.old.walk.recording.now ≡ f → AreEvents f all events.now →
+    fn push(&mut self, events: &Events<'_>, found: &Found<'_>) -> Result<(), AllocError>
+        ensures pushes { (f : File) (c : script.Choice) (m : Moment) (older : List Reading) →
+            view self.old.walk.recording.now ≡ f → AreChosen f c events.now →
             IsFrameOf f m found.now self.old.walk.frame → IsPast self.old.walk.history m.known →
-            IsCounted self.old.state.known older → OnOk result (Pushes f all m older self.old self.new) }
+            IsCounted self.old.state.known older → OnOk result (Pushes f c m older self.old self.new) }
         ensures walk { self.new.walk ≡ self.old.walk }
     {
         self.refused |= self.walk.frame().refusal != 0;
-        push_found(
-            &mut self.text,
-            events,
-            &mut self.state,
-            self.walk.recording().order(),
-            found,
-            self.walk.history(),
-            self.walk.frame(),
-        )
+        push_found(&mut self.text, events, &mut self.state, found, &self.walk)
     }
 
     // Goes on to the frame of an entry.
-    fn step(&mut self, events: &Events, entry: &Entry) -> Result<(), AllocError>
-        ensures { (f : File) (all : List labels.EventLabel) (left : List Entry) (any : Bool)
-            (whole : List ℕ) → AreEvents f all events.now →
-            IsUnderWay f all (entry.now ∷ left) any whole self.old →
-            OnOk result (IsUnderWay f all left any whole self.new) }
+    fn step(&mut self, events: &Events<'_>, entry: &Entry) -> Result<(), AllocError>
+        ensures { (f : File) (c : script.Choice) (left : List Entry) (any : Bool)
+            (whole : List ℕ) → AreChosen f c events.now →
+            IsUnderWay f c (entry.now ∷ left) any whole self.old →
+            OnOk result (IsUnderWay f c left any whole self.new) }
     {
         let next = self.walk.step(entry)?;
         match next {
@@ -375,11 +408,11 @@ impl<'a, 'p> Script<'a, 'p> {
 fn text_of_entries(
     alloc: Global,
     recording: &Recording<'_>,
-    events: &Events,
+    events: &Events<'_>,
     entries: &[Entry],
 ) -> Result<(Vec<u8>, bool), AllocError>
-    ensures { (all : List labels.EventLabel) → AreEvents (view recording.now) all events.now →
-        IfOk result (λ made. script.IsTextOf (view recording.now) all entries.now made.1 made.0.items) }
+    ensures { (c : script.Choice) → AreChosen (view recording.now) c events.now →
+        IfOk result (λ made. script.IsTextOf (view recording.now) c entries.now made.1 made.0.items) }
 {
     let mut made = Script::new(alloc, recording);
     for entry in entries {
@@ -388,13 +421,30 @@ fn text_of_entries(
     Ok((made.text, made.refused))
 }
 
-/// The text of the samples of a recording by time, and at equal times in the order of the file, and
-/// whether a frame was refused.
-pub fn text_of(alloc: Global, recording: &Recording<'_>) -> Result<(Vec<u8>, bool), AllocError>
-    ensures { (naming : ℕ → FileEvent → Name) → labels.AreNamedBy recording.now naming →
-        IfOk result (λ made. script.IsText (view recording.now) naming made.1 made.0.items) }
+// The text of the samples of a recording by time, and whether a frame was refused.
+pub(crate) fn text_of_events(
+    alloc: Global,
+    recording: &Recording<'_>,
+    events: &Events<'_>,
+) -> Result<(Vec<u8>, bool), AllocError>
+    ensures { (w : filters.Filter) (naming : ℕ → FileEvent → Name) → AreChosen (view recording.now)
+        (script.choice_by w naming (view recording.now).events) events.now →
+        IfOk result (λ made. script.IsText w (view recording.now) naming made.1 made.0.items) }
 {
-    let events = Events::of(alloc, recording)?;
     let entries = recording.in_order(alloc)?;
-    text_of_entries(alloc, recording, &events, &entries)
+    text_of_entries(alloc, recording, events, &entries)
+}
+
+/// The text of the samples of a recording that a filter takes, by time, and at equal times in the order
+/// of the file, and whether a frame was refused.
+pub fn text_of(
+    alloc: Global,
+    filter: Filter<'_>,
+    recording: &Recording<'_>,
+) -> Result<(Vec<u8>, bool), AllocError>
+    ensures { (naming : ℕ → FileEvent → Name) → labels.AreNamedBy recording.now naming →
+        IfOk result (λ made. script.IsText filter.entry (view recording.now) naming made.1 made.0.items) }
+{
+    let events = Events::of(alloc, filter, recording)?;
+    text_of_events(alloc, recording, &events)
 }

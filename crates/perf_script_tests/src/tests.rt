@@ -54,7 +54,7 @@ fn a_sample_with_a_chain(rt: HostRuntime) -> Result<(), Fail> {
     ];
     let shown = Sampled {
         fields: 0x10027,
-        guest: false,
+        hidden: false,
         sample: Sample {
             pid: 4573,
             tid: 4573,
@@ -69,6 +69,7 @@ fn a_sample_with_a_chain(rt: HostRuntime) -> Result<(), Fail> {
     let heading = Heading {
         label: b"page-faults/period=7,call-graph=fp/: ",
         period: 7,
+        counts: true,
     };
     let mut text = Vec::new(rt.alloc());
     push_sample(&mut text, heading, &history(rt.alloc(), 4573)?, &shown)?;
@@ -77,10 +78,10 @@ fn a_sample_with_a_chain(rt: HostRuntime) -> Result<(), Fail> {
 }
 
 #[test]
-fn a_sample_without_a_chain_and_one_of_a_guest(rt: HostRuntime) -> Result<(), Fail> {
+fn a_sample_without_a_chain_and_hidden_ones(rt: HostRuntime) -> Result<(), Fail> {
     let mut shown = Sampled {
         fields: 0x187,
-        guest: false,
+        hidden: false,
         sample: Sample {
             pid: 2,
             tid: 2,
@@ -92,14 +93,18 @@ fn a_sample_without_a_chain_and_one_of_a_guest(rt: HostRuntime) -> Result<(), Fa
         },
         calls: &[],
     };
-    let heading = Heading {
+    let mut heading = Heading {
         label: b"cpu-clock/freq=1000/: ",
         period: 1000000,
+        counts: true,
     };
     let history = history(rt.alloc(), 2)?;
     let mut text = Vec::new(rt.alloc());
     push_sample(&mut text, heading, &history, &shown)?;
-    shown.guest = true;
+    shown.hidden = true;
+    push_sample(&mut text, heading, &history, &shown)?;
+    shown.hidden = false;
+    heading.counts = false;
     push_sample(&mut text, heading, &history, &shown)?;
     assert_eq!(rt; text.as_slice(), PLAIN);
     Ok(())

@@ -5,3 +5,6 @@ pub mod Sampled
 pub mod PlainNames
 pub mod Chains
 pub mod Walked
+pub mod Fields
+pub mod Filtered
+pub mod Digits

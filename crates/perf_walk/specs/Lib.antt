@@ -5,4 +5,6 @@ pub mod Contents
 pub mod Samples
 pub mod Calls
 pub mod Moments
+pub mod Filters
+pub mod Times
 pub mod Steps

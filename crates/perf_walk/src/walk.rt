@@ -7,7 +7,9 @@ ghost use Rattle.perf_walk.specs.Moments.{event_of};
 ghost use Rattle.perf_walk.specs.Plain.{IsPast, plain};
 
 use crate::changing::change_in;
+use crate::filtering::Filter;
 use crate::parts::first_frame;
+use crate::sampling::Sample;
 use perf_file::listing::left_at;
 use perf_file::{Entry, Owner, Recording};
 use perf_flat::frame::{FlatFrame, NUMBERS, SPANS, Span};
@@ -81,11 +83,18 @@ fn apply<'p>(history: &mut History<'p>, change: Option<Change<'p>>) -> Result<()
 }
 
 impl<'a, 'p> Walk<'a, 'p> {
+    ghost use Rattle.perf_file.specs.Opened.{File};
     ghost use Rattle.perf_file.specs.Views.{view};
     ghost use Rattle.perf_history.specs.Histories.{name_of, place_of};
     ghost use Rattle.perf_history.specs.declared.changes.Change.{Change};
+    ghost use Rattle.perf_base.specs.Dynamic.{order_of};
+    ghost use Rattle.perf_sample_types.specs.Sample.{SampleValue};
+    ghost use Rattle.perf_walk.specs.Filters.{takes_at};
+    ghost use Rattle.perf_walk.specs.Moments.{Moment};
     ghost use Rattle.perf_walk.specs.Plain.{plain_name, plain_place};
-    ghost use Rattle.perf_walk.specs.Steps.{Reads, Steps};
+    ghost use Rattle.perf_walk.specs.Samples.{sample_of, sample_view};
+    ghost use Rattle.perf_walk.specs.Steps.{IsFrameOf, Reads, Steps};
+    ghost use Rattle.std.specs.Prelude.{Some};
 
     /// A walk before its first step. Nothing is known then.
     pub fn new(alloc: Global, recording: &'a Recording<'p>) -> Walk<'a, 'p>
@@ -170,5 +179,21 @@ impl<'a, 'p> Walk<'a, 'p> {
             option_map plain_place result ≡ place_of known pid mode address }
     {
         self.history.place(pid, mode, address)
+    }
+    /// Whether a filter takes the sample of the frame that was found last, by what is known then,
+    /// whatever the event of the frame is.
+    pub fn takes(&self, filter: &Filter<'_>, sample: &Sample) -> bool
+        ensures { (f : File) (m : Moment) (s : SampleValue) (found : Found) →
+            IsFrameOf f m found self.now.frame → IsPast self.now.history m.known →
+            sample_of m.config (order_of f.order) m.frame ≡ Some s →
+            sample.now ≡ sample_view self.now.frame.misc s →
+            result ≡ takes_at filter.now m self.now.frame.misc s }
+    {
+        let fields = self.frame.present;
+        if filter.comms.is_empty() {
+            filter.takes_numbers(fields, sample)
+        } else {
+            filter.takes_sample(fields, sample, self.comm(sample.tid))
+        }
     }
 }

@@ -1,16 +1,20 @@
+use Rattle.std.proofs.Common.{◌∙◌, sym}
 use Rattle.perf_flame.specs.FoldedLines.{folded_lines}
-use Rattle.perf_fold.proofs.Lined.{lines_of, failed}
+use Rattle.perf_fold.proofs.Lined.{lines_of, lacks_event, failed}
 use Rattle.perf_fold.proofs.run.write_fold.Goals as goal
 
 pub returns-in-Ok : goal.returns-in-Ok
 returns-in-Ok g c =
     let r = c.in_ok-recording.recording in
-    let lines = folded_lines c.in_ok-folded.folded in
-    (lines, lines_of c.args.how c.args.bytes.now r lines c.in_ok-recording.ensures.exact c.in_ok-recording.ensures.named c.in_ok-folded.ensures, c.in-Ok.ensures)
+    let lines = folded_lines c.in_ok-folded.folded in (
+      lines,
+      lines_of c.args.how c.args.bytes.now r lines c.in_ok-recording.ensures.exact c.in_ok-recording.ensures.named (sym c.in_ok-has_event.ensures ∙ c.if-has_event.true) c.in_ok-folded.ensures,
+      c.in-Ok.ensures,
+    )
 
 pub returns : goal.returns
 returns g c =
     let r = c.in_ok-recording.recording in
     let lines = folded_lines c.in_ok-folded.folded in
     failed c.args.how c.args.form c.args.bytes.now lines c.in-Err.error _ _
-    (lines_of c.args.how c.args.bytes.now r lines c.in_ok-recording.ensures.exact c.in_ok-recording.ensures.named c.in_ok-folded.ensures) c.in-Err.ensures
+    (lines_of c.args.how c.args.bytes.now r lines c.in_ok-recording.ensures.exact c.in_ok-recording.ensures.named (sym c.in_ok-has_event.ensures ∙ c.if-has_event.true) c.in_ok-folded.ensures) c.in-Err.ensures

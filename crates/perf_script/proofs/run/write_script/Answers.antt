@@ -1,19 +1,25 @@
-use Rattle.std.proofs.Common.{List, sym, subst}
+use Rattle.std.proofs.Common.{◌∙◌, sym, subst}
 use Rattle.perf_file.specs.Forms.{event_name}
 use Rattle.perf_file.specs.Opened.{File}
 use Rattle.perf_file.specs.Views.{view}
-use Rattle.perf_script.specs.ScriptText.{IsText}
+use Rattle.perf_script.specs.ScriptText.{IsText, choice_by}
+use Rattle.perf_script.proofs.Naming.{chosen_by, any_is}
 use Rattle.perf_script.proofs.run.write_script.Goals as goal
 
 pub returns : goal.returns
 returns g c =
-    let f : File = view c.in_ok-recording.recording in (
+    let r = c.in_ok-recording.recording in
+    let f : File = view r in
+    let w = c.args.filter in
+    let naming = event_name c.args.bytes.now f in
+    let events = c.in_ok-events.events in
+    let chosen = chosen_by w r naming events c.in_ok-recording.ensures.named c.in_ok-events.ensures.events c.in_ok-events.ensures.filter in
+    let any = sym (any_is f (choice_by w naming f.events) events chosen) ∙ sym c.any_counts.ensures ∙ c.if-any_counts.true in (
       f,
       c.in_ok-recording.ensures.exact,
-      (
-        c.in_ok-text.refused,
-        c.deref.result.now,
-        subst (IsText f (event_name c.args.bytes.now f) c.in_ok-text.refused) (sym c.deref.ensures.value) (c.in_ok-text.ensures (event_name c.args.bytes.now f) c.in_ok-recording.ensures.named),
-        c.write_text.ensures,
-      ),
+      any,
+      c.in_ok-text.refused,
+      c.deref.result.now,
+      subst (IsText w f naming c.in_ok-text.refused) (sym c.deref.ensures.value) (c.in_ok-text.ensures w naming chosen),
+      c.write_text.ensures,
     )
