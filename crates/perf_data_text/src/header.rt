@@ -132,7 +132,7 @@ fn push_build_id(text: &mut String, build: &BuildId<'_>) -> Result<(), AllocErro
 }
 
 // Appends the lines of build ids.
-fn push_builds(text: &mut String, list: BuildIds<'_>) -> Result<(), AllocError>
+fn push_builds(text: &mut String, list: BuildIds<'_, '_>) -> Result<(), AllocError>
     ensures { OnOk result (string_bytes text.new
         ≡ string_bytes text.old ++ headers.build_lines (builds_left list.entry)) }
 {
@@ -145,7 +145,7 @@ fn push_builds(text: &mut String, list: BuildIds<'_>) -> Result<(), AllocError>
 // Appends the lines of the build ids, and returns whether they are refused.
 fn push_build_ids(
     text: &mut String,
-    found: Result<Option<BuildIds<'_>>, BadFeature>,
+    found: Result<Option<BuildIds<'_, '_>>, BadFeature>,
 ) -> Result<bool, AllocError>
     ensures text { OnOk result (string_bytes text.new ≡ string_bytes text.old
         ++ headers.feature_lines (codes "build id") headers.build_lines

@@ -15,7 +15,7 @@ use crate::file::FlatFile;
 use crate::file_events::{FlatEvent, first_place};
 use crate::order::order_by;
 use perf_file::Owner;
-use perf_file::entries::time_in;
+use perf_file::entries::{Timed, sort_by_time, time_in};
 use perf_file::finding::{Finder, first_in};
 use perf_file::ids::IdOfEvent;
 use perf_records::frame::Frame;
@@ -36,12 +36,21 @@ pub struct FlatEntry {
     pub owner: u32,
 }
 
+impl Timed for FlatEntry {
+    ghost time_and_place = { entries.time_and_place };
+
+    #[inline]
+    fn time_and_place(&self) -> (u64, u64) {
+        (self.time, self.at)
+    }
+}
+
 /// Sorts entries by time, and at equal times by their offsets in the file.
 #[unsafe(no_mangle)]
 pub extern "C" fn ped_file_sort(list: &mut [FlatEntry])
     ensures { entries.IsInOrder list.old list.new }
 {
-    list.sort_unstable_by_key(|entry| (entry.time, entry.at));
+    sort_by_time(list);
 }
 
 // The owner of a frame, and its number, as numbers.

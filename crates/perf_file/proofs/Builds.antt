@@ -1,10 +1,10 @@
 -- Build ids one after another.
 use Rattle.std.specs.Prelude.{if◌then◌else◌, ◌==◌, nat_lt, nat_le}
-use Rattle.std.proofs.Common.{◌≡◌, ℕ, zero, suc, ◌-◌, ◌+◌, ◌<◌, ◌≤◌, Bool, true, false, List, [], ◌∷◌, length, drop, refl, sym, ap, ◌∙◌, arith}
+use Rattle.std.proofs.Common.{◌≡◌, ℕ, zero, suc, ◌-◌, ◌+◌, ◌<◌, ◌≤◌, Bool, true, false, List, [], ◌∷◌, ◌++◌, length, drop, Some, None, refl, sym, ap, ◌∙◌, arith}
 use Rattle.std.proofs.lemmas.Bool.{lt-ltb, ltb-false, leb-true}
 use Rattle.std.proofs.lemmas.List.{length-drop}
 use Rattle.perf_base.specs.Order.{Order}
-use Rattle.perf_file.specs.BuildIds.{Build, is_whole, record_size, build_in, first_builds, builds, are_whole}
+use Rattle.perf_file.specs.BuildIds.{Build, is_whole, record_size, build_in, first_builds, builds, are_whole, joined}
 
 -- a whole record has 36 bytes or more, which are there
 two_tests : (a b c : Bool) → (if a then false else (if b then false else c)) ≡ true → (b ≡ false) × (c ≡ true)
@@ -71,3 +71,14 @@ more_whole o count i left lt some whole = let k : count - i ≡ suc (count - (i 
 pub over : (o : Order) (n : ℕ) (left : List ℕ) → n ≡ 0 → are_whole o n left ≡ (length left == 0)
 unfolding are_whole
 over o n left done = rw done refl
+
+-- ---- build ids in notes
+
+-- those of no records
+nothing : (o : Order) → builds o [] ≡ []
+unfolding first_builds
+nothing o = refl
+
+pub only_noted : (o : Order) (b : Build) (noted rest : List Build) → noted ≡ b ∷ rest → Some (builds o [] ++ noted) ≡ joined None noted
+only_noted o b noted rest is =
+    ap (λ (l : List Build). Some (l ++ noted)) (nothing o) ∙ ap (λ (l : List Build). Some l) is ∙ sym (ap (λ (l : List Build). joined None l) is)

@@ -106,3 +106,7 @@ least_at xs top d sorted next lt id s =
       | inl before ↦ before
       | inr after ↦ let e = event_at xs id n d c in let up = sorted top c.0 d after c.1 in absurd (omega (arith, low, e.0, up))
     ]
+
+-- the first that has an id, if all before it have lesser ones
+pub found_first : (xs : List IdOfEvent) (i id : ℕ) (d : IdOfEvent) → ((k : ℕ) (e : IdOfEvent) → k < i → (get_or xs k e).id < id) → i < length xs → (get_or xs i d).id ≡ id → event_of xs id ≡ Some (get_or xs i d).event
+found_first xs i id d less lt is = first_at xs i id d (λ k e a inside same. let b = less k e a in absurd (omega (arith, b, same))) lt is

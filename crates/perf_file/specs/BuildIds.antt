@@ -1,13 +1,17 @@
--- The build ids of files that were mapped: the feature BUILD_ID, a list of records.
-use Rattle.std.specs.Prelude.{ℕ, zero, suc, ◌-◌, ◌==◌, min, Bool, true, false, List, [], ◌∷◌, length, drop, nat_lt, nat_le, slice_index, Option, Result, Ok, Err, if◌then◌else◌}
+-- The build ids of files that were mapped: records, in the feature BUILD_ID one after another, and in
+-- a pipe each in a frame of its own, of the type 67.
+use Rattle.std.specs.Prelude.{ℕ, zero, suc, ◌-◌, ◌==◌, ◌&&◌, min, Bool, true, false, List, [], ◌∷◌, ◌++◌, length, map, drop, nat_lt, nat_le, slice_index, Option, Some, None, Result, Ok, Err, if◌then◌else◌}
+use Rattle.std.specs.List.{filter, list_any}
 use Rattle.perf_base.specs.Dynamic.{order_of}
 use Rattle.perf_base.specs.Layout.{slice}
 use Rattle.perf_base.specs.Order.{Order}
 use Rattle.perf_base.specs.declared.endian.Dynamic.{Dynamic}
 use Rattle.perf_file.specs.Descriptions.{before_zero}
-use Rattle.perf_file.specs.Forms.{feature_of}
+use Rattle.perf_file.specs.Forms.{feature_of, notes_of}
 use Rattle.perf_file.specs.FeatureTexts.{then_read}
+use Rattle.perf_file.specs.NoteViews.{note_of}
 use Rattle.perf_file.specs.Numbers.{small_number}
+use Rattle.perf_file.specs.Pipes.{FrameNote, is_of}
 use Rattle.perf_file.specs.declared.build_ids.BuildId.{BuildId}
 use Rattle.perf_file.specs.declared.build_ids.BuildIds.{BuildIds}
 use Rattle.perf_file.specs.declared.feature.BadFeature.{BadFeature}
@@ -40,14 +44,19 @@ pub record Build : Type 0 where
 abbrev pub id_length : (misc stated : ℕ) → ℕ
 id_length misc stated = if has_bit misc 15 then min stated 20 else 20
 
+-- the build id in the bytes after a header with that `misc`: a process, 20 bytes, how many of them
+-- count, three bytes, and a path
+abbrev pub build_with : Order → (misc : ℕ) → (body : List ℕ) → Build
+build_with o misc body = record {
+  misc = misc;
+  pid = small_number o body 0;
+  id = slice body 4 (id_length misc (slice_index body 24));
+  filename = before_zero (drop 28 body);
+}
+
 -- the build id in the record at the front
 abbrev pub build_in : Order → List ℕ → Build
-build_in o bytes = record {
-  misc = half_number o bytes 4;
-  pid = small_number o bytes 8;
-  id = slice bytes 12 (id_length (half_number o bytes 4) (slice_index bytes 32));
-  filename = before_zero (slice bytes 36 (record_size o bytes - 36));
-}
+build_in o bytes = build_with o (half_number o bytes 4) (slice bytes 8 (record_size o bytes - 8))
 
 -- a build id of the code
 abbrev pub build_of : BuildId → Build
@@ -76,10 +85,41 @@ are_whole o (suc n) bytes =
 abbrev pub checked_builds : Order → List ℕ → Result (List Build) BadFeature
 checked_builds o bytes = if are_whole o (length bytes) bytes then Ok (builds o bytes) else Err Short
 
--- those of a file in that order
+-- whether a note has one: its frame is a record, which is whole
+abbrev pub is_build : FrameNote → Bool
+is_build n = is_of 67 n && nat_le 28 (length n.body)
+
+-- whether it is one that is not whole
+abbrev pub is_cut : FrameNote → Bool
+is_cut n = is_of 67 n && nat_lt (length n.body) 28
+
+-- those in notes
+abbrev pub noted_builds : Order → List FrameNote → List Build
+noted_builds o notes = map (λ (n : FrameNote). build_with o n.header.misc n.body) (filter is_build notes)
+
+-- refuses notes with one that is not whole
+abbrev pub checked_notes : List FrameNote → Result (Unit {0}) BadFeature
+checked_notes notes = if list_any is_cut notes then Err Short else Ok tt
+
+-- those of the feature, if there is one, and after them those in notes; none without either
+abbrev pub joined : Option (List Build) → List Build → Option (List Build)
+joined None [] = None
+joined None (b ∷ bs) = Some (b ∷ bs)
+joined (Some builds) others = Some (builds ++ others)
+
+-- the same, if all of them are whole
+abbrev pub joined_if : Result (Option (List Build)) BadFeature → Result (Unit {0}) BadFeature → List Build → Result (Option (List Build)) BadFeature
+joined_if (Ok builds) (Ok checked) others = Ok (joined builds others)
+joined_if (Ok builds) (Err e) others = Err e
+joined_if (Err e) checked others = Err e
+
+-- those of a file in either form, in that order: a file that is no pipe has no notes
 abbrev pub build_ids_of : Dynamic → List ℕ → Result (Option (List Build)) BadFeature
-build_ids_of order bytes = then_read (checked_builds (order_of order)) (feature_of bytes 2)
+build_ids_of order bytes = joined_if
+    (then_read (checked_builds (order_of order)) (feature_of bytes 2))
+    (checked_notes (notes_of bytes))
+    (noted_builds (order_of order) (notes_of bytes))
 
 -- those that are left of a list of the code
 abbrev pub builds_left : BuildIds → List Build
-builds_left list = builds (order_of list.order) list.left.now
+builds_left list = builds (order_of list.order) list.left.now ++ noted_builds (order_of list.order) (map note_of list.notes.now)

@@ -1,5 +1,5 @@
 -- When frames happened, and their order.
-use Rattle.std.specs.Prelude.{ℕ, zero, suc, ◌==◌, List, [], ◌∷◌, map, Option, Some, None, option_map, if◌then◌else◌}
+use Rattle.std.specs.Prelude.{ℕ, zero, suc, ◌+◌, ◌*◌, ◌^◌, ◌==◌, List, [], ◌∷◌, map, Option, Some, None, option_map, if◌then◌else◌}
 use Rattle.std.specs.List.Sorted.{IsPermutation, IsSortedByKey}
 use Rattle.std.specs.Ordering.{nat_cmp, ordering_then}
 use Rattle.std.specs.declared.cmp.Ordering.{Ordering}
@@ -61,6 +61,10 @@ time_and_place e = (e.time, e.at)
 -- by time, and at equal times by place
 abbrev pub by_time_then_place : ℕ × ℕ → ℕ × ℕ → Ordering
 by_time_then_place x y = ordering_then (nat_cmp x.0 y.0) (nat_cmp x.1 y.1)
+
+-- both as one number, which has the time in its upper half
+abbrev pub number_of : ℕ × ℕ → ℕ
+number_of moment = moment.0 * 2 ^ 64 + moment.1
 
 -- ys has the entries of xs, by time and then by place
 pub record IsInOrder (xs ys : List Entry) : Type 0 where

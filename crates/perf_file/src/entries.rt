@@ -1,6 +1,7 @@
 //! When frames happened, and their order.
 
-ghost use Rattle.std.specs.Prelude.{◌≡◌, ◌<◌, ◌≤◌, Some, IfOk, IfSome, MatchOption, length, option_map, slice_index_or};
+ghost use Rattle.std.specs.Prelude.{◌≡◌, ◌<◌, ◌≤◌, ℕ, Some, IfOk, IfSome, MatchOption, length, option_map, slice_index_or};
+ghost use Rattle.std.specs.List.Sorted.{IsPermutation, IsSortedByKey};
 ghost use Rattle.perf_base.specs.Configured.{configuration_of, endian_of};
 ghost use Rattle.perf_base.specs.Dynamic.{order_of};
 ghost use Rattle.perf_buffers.specs.Prelude.{chunk_bytes};
@@ -19,6 +20,7 @@ use perf_base::{Endian, ParseConfig};
 use perf_records::frame::Frame;
 use perf_records::frame_handler::BadFrame;
 use std::alloc::{AllocError, Global};
+use std::cmp::Ordering;
 
 /// When a frame happened, where it is, and which event it belongs to.
 #[derive(Copy, Clone, Debug)]
@@ -31,7 +33,17 @@ pub struct Entry {
     pub owner: Owner,
 }
 
+/// What happened at a time, and has a place in a file.
+pub trait Timed {
+    ghost time_and_place: { Self → ℕ × ℕ };
+
+    /// Its time, and the offset of its place.
+    fn time_and_place(&self) -> (u64, u64)
+        ensures { result ≡ time_and_place self.now };
+}
+
 // When a frame happened, under a configuration: 0 if it does not contain a time, or all ones.
+#[inline]
 fn time_under<E: Endian>(frame: &Frame<'_, '_>, config: &ParseConfig<E>) -> u64
     ensures { result ≡ entries.known_time (time_in (configuration_of config.now)
         (E.order (endian_of config.now)) frame.now.header (chunk_bytes frame.now.rest)) }
@@ -44,6 +56,7 @@ fn time_under<E: Endian>(frame: &Frame<'_, '_>, config: &ParseConfig<E>) -> u64
 }
 
 /// When what was found happened, under a configuration: 0 if no whole frame is there.
+#[inline]
 pub fn time_in(config: &ParseConfig<Dynamic>, frame: &Result<Frame<'_, '_>, BadFrame>) -> u64
     ensures { result ≡ entries.time_under (Some (configuration_of config.now))
         (order_of (endian_of config.now)) (sight_of frame.now) }
@@ -55,6 +68,7 @@ pub fn time_in(config: &ParseConfig<Dynamic>, frame: &Result<Frame<'_, '_>, BadF
 }
 
 // When a frame of a file happened.
+#[inline]
 fn time_of(recording: &Recording<'_>, found: &FileFrame<'_>) -> u64
     ensures { result ≡ entries.time_of (view recording.now) (piece_of found.now) }
 {
@@ -65,6 +79,7 @@ fn time_of(recording: &Recording<'_>, found: &FileFrame<'_>) -> u64
 }
 
 // The event with a number, if there is one.
+#[inline]
 fn event_at<'a, 'p>(events: &'a [Event<'p>], number: usize) -> Option<&'a Event<'p>>
     ensures { MatchOption result (length events.now ≤ number) (λ e. (number < length events.now)
         × (e.now ≡ slice_index_or events.now number e.now)) }
@@ -73,6 +88,7 @@ fn event_at<'a, 'p>(events: &'a [Event<'p>], number: usize) -> Option<&'a Event<
 }
 
 // How the frames of the event with a number are read, if there is one.
+#[inline]
 fn config_at<'a>(recording: &'a Recording<'_>, number: usize) -> Option<&'a ParseConfig<Dynamic>>
     ensures value { option_map (λ c. configuration_of c.now) result ≡
         entries.config_at (view recording.now) number }
@@ -99,11 +115,44 @@ fn entries_of(recording: &Recording<'_>, alloc: Global) -> Result<Vec<Entry>, Al
     Ok(entries)
 }
 
+impl Timed for Entry {
+    ghost time_and_place = { entries.time_and_place };
+
+    #[inline]
+    fn time_and_place(&self) -> (u64, u64) {
+        (self.time, self.at as u64)
+    }
+}
+
+// A time and a place as one number, which has the time in its upper half.
+#[inline]
+fn number_of(moment: (u64, u64)) -> u128
+    ensures { result ≡ entries.number_of moment }
+{
+    u128::from(moment.0) * 0x1_0000_0000_0000_0000 + u128::from(moment.1)
+}
+
+// How two frames compare: by time, and at equal times by place. One number is compared for both.
+#[inline]
+fn compare(first: (u64, u64), other: (u64, u64)) -> Ordering
+    ensures { result ≡ entries.by_time_then_place first other }
+{
+    number_of(first).cmp(&number_of(other))
+}
+
+/// Sorts by time, and at equal times by place, in place.
+pub fn sort_by_time<T: Timed>(list: &mut [T])
+    ensures same { IsPermutation list.old list.new }
+    ensures sorted { IsSortedByKey T.time_and_place entries.by_time_then_place list.new }
+{
+    list.sort_unstable_by(|first, other| compare(first.time_and_place(), other.time_and_place()));
+}
+
 // The same entries by time, and at equal times by place.
 fn sorted(mut list: Vec<Entry>) -> Vec<Entry>
     ensures { entries.IsInOrder list.items result.items }
 {
-    list.sort_unstable_by_key(|entry| (entry.time, entry.at));
+    sort_by_time(list.as_mut_slice());
     list
 }
 

@@ -38,6 +38,7 @@ pub struct Finder<'a> {
 
 impl Finder<'_> {
     // The owner of a frame by its id.
+    #[inline]
     fn owner_by(&self, id: Option<u64>) -> Owner
         ensures { (f : File) → Finds f self.now →
             result ≡ owners.owner_by (table_of f.events) id }
@@ -55,6 +56,7 @@ impl Finder<'_> {
     }
 
     // The id of a frame of that type with these bytes after its header.
+    #[inline]
     fn id_in(&self, ty: u32, body: &[u8]) -> Option<u64>
         ensures { (f : File) → Finds f self.now → result ≡ owners.id_in f ty body.now }
     {
@@ -65,6 +67,7 @@ impl Finder<'_> {
     }
 
     // Whether a frame of that type belongs to the first event whatever it contains.
+    #[inline]
     fn is_of_first(&self, ty: u32) -> bool
         ensures { (f : File) → Finds f self.now → result ≡ owners.is_of_first f ty }
     {
@@ -72,6 +75,7 @@ impl Finder<'_> {
     }
 
     // The owner of a frame of that type with these bytes after its header.
+    #[inline(always)]
     fn owner_of(&self, ty: u32, body: &[u8]) -> Owner
         ensures { (f : File) → Finds f self.now → result ≡ owners.owner_of f ty body.now }
     {
@@ -85,6 +89,7 @@ impl Finder<'_> {
     }
 
     /// The owner of what is found where a frame begins.
+    #[inline(always)]
     pub fn owner_of_found(&self, frame: &Result<Frame<'_, '_>, BadFrame>) -> Owner
         ensures { (f : File) → Finds f self.now →
             result ≡ owners.owner_of_sight f (sight_of frame.now) }
@@ -97,6 +102,7 @@ impl Finder<'_> {
 }
 
 /// The first frame of bytes, and the bytes after it and its payload.
+#[inline]
 pub fn first_in<'p>(
     order: Dynamic,
     bytes: &'p [u8],

@@ -48,6 +48,7 @@ pub(crate) fn open_file<'p>(alloc: Global, bytes: &'p [u8]) -> Result<Recording<
         ids,
         place,
         notes: Vec::new(alloc),
+        pipe: None,
     })
 }
 
@@ -81,5 +82,6 @@ pub(crate) fn open_pipe<'p>(
         ids,
         place,
         notes,
+        pipe: Some(order),
     })
 }

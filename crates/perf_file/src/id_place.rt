@@ -87,6 +87,7 @@ pub fn is_same_place(first: Option<IdPlace>, second: Option<IdPlace>) -> bool
 }
 
 // The number of the eight bytes at an offset, if there are so many.
+#[inline]
 pub(crate) fn number_if(order: Dynamic, bytes: &[u8], place: usize) -> Option<u64>
     ensures { result ≡ places.number_if (order_of order) bytes.now place }
 {
@@ -98,6 +99,7 @@ pub(crate) fn number_if(order: Dynamic, bytes: &[u8], place: usize) -> Option<u6
 
 /// The id at a place, in a frame of that type with these bytes after its header. None if there are
 /// too few.
+#[inline]
 pub fn id_at(order: Dynamic, place: IdPlace, ty: u32, bytes: &[u8]) -> Option<u64>
     ensures { result ≡ places.id_at (order_of order) place ty bytes.now }
 {

@@ -1,6 +1,6 @@
 //! Which event has an id.
 
-ghost use Rattle.std.specs.Prelude.{◌≡◌, ◌≤◌, ◌++◌, ℕ, IfSome, IfNone, OnOk};
+ghost use Rattle.std.specs.Prelude.{◌≡◌, ◌≤◌, ◌<◌, ◌++◌, ℕ, Some, IfSome, IfNone, OnOk, true, length, slice_index_or};
 ghost use Rattle.std.specs.List.Sorted.{IsNonDecreasingBy};
 ghost use Rattle.perf_file.specs.IdTables as tables;
 ghost use Rattle.perf_file.specs.declared.ids.IdOfEvent.{IdOfEvent};
@@ -27,8 +27,39 @@ pub fn push_ids(table: &mut Vec<IdOfEvent>, event: usize, ids: &[u64]) -> Result
     Ok(())
 }
 
-/// The number of the event that has an id, in a table that is by rising ids.
-pub(crate) fn event_of(table: &[IdOfEvent], id: u64) -> Option<usize>
+// Whether all ids before an index are less than one, in a table that is by rising ids.
+#[inline]
+fn are_less_before(table: &[IdOfEvent], at: usize, id: u64) -> bool
+    requires { at ≤ length table.now }
+    ensures { IsNonDecreasingBy (λ (e : IdOfEvent). e.id) table.now → result ≡ true →
+        (k : ℕ) (d : IdOfEvent) → k < at → (slice_index_or table.now k d).id < id }
+{
+    at == 0 || table[at - 1].id < id
+}
+
+// The event that has an id, if the ids of the table follow one another up to it, as those of one
+// recording mostly do.
+#[inline]
+fn event_in_row(table: &[IdOfEvent], id: u64) -> Option<usize>
+    ensures { IsNonDecreasingBy (λ (e : IdOfEvent). e.id) table.now →
+        IfSome result (λ event. tables.event_of table.now id ≡ Some event) }
+{
+    let first = table.first()?;
+    let place = id.wrapping_sub(first.id);
+    if place >= table.len() as u64 {
+        return None;
+    }
+    let at = place as usize;
+    let entry = table[at];
+    if entry.id == id && are_less_before(table, at, id) {
+        Some(entry.event)
+    } else {
+        None
+    }
+}
+
+// The event that has an id, which is searched for.
+fn event_by_search(table: &[IdOfEvent], id: u64) -> Option<usize>
     ensures { IsNonDecreasingBy (λ (e : IdOfEvent). e.id) table.now →
         result ≡ tables.event_of table.now id }
 {
@@ -41,6 +72,18 @@ pub(crate) fn event_of(table: &[IdOfEvent], id: u64) -> Option<usize>
         Some(entry.event)
     } else {
         None
+    }
+}
+
+/// The number of the event that has an id, in a table that is by rising ids.
+#[inline]
+pub(crate) fn event_of(table: &[IdOfEvent], id: u64) -> Option<usize>
+    ensures { IsNonDecreasingBy (λ (e : IdOfEvent). e.id) table.now →
+        result ≡ tables.event_of table.now id }
+{
+    match event_in_row(table, id) {
+        Some(event) => Some(event),
+        None => event_by_search(table, id),
     }
 }
 

@@ -40,6 +40,7 @@ pub struct FileFrames<'a, 'p> {
 }
 
 // The number of the first eight bytes, 0 if there are fewer.
+#[inline]
 fn first_u64(order: Dynamic, bytes: &[u8]) -> u64
     ensures { result ≡ pieces.first_u64 (order_of order) bytes.now }
 {
@@ -50,6 +51,7 @@ fn first_u64(order: Dynamic, bytes: &[u8]) -> u64
 }
 
 // The number of the first four bytes, 0 if there are fewer.
+#[inline]
 fn first_u32(order: Dynamic, bytes: &[u8]) -> u32
     ensures { result ≡ pieces.first_u32 (order_of order) bytes.now }
 {
@@ -60,6 +62,7 @@ fn first_u32(order: Dynamic, bytes: &[u8]) -> u32
 }
 
 // How many bytes after a frame are no frames.
+#[inline]
 pub(crate) fn payload_length(order: Dynamic, frame: &Result<Frame<'_, '_>, BadFrame>) -> u64
     ensures { result ≡ pieces.payload_length (order_of order) (sight_of frame.now) }
 {
@@ -74,6 +77,7 @@ pub(crate) fn payload_length(order: Dynamic, frame: &Result<Frame<'_, '_>, BadFr
 }
 
 // The first bytes, at most so many, and those after them.
+#[inline]
 pub(crate) fn split_most(bytes: &[u8], count: u64) -> (&[u8], &[u8])
     ensures front { result.0.now ≡ pieces.take_most count bytes.now }
     ensures back { result.1.now ≡ pieces.drop_most count bytes.now }
@@ -86,6 +90,7 @@ pub(crate) fn split_most(bytes: &[u8], count: u64) -> (&[u8], &[u8])
 }
 
 // How many bytes a frame with that header takes.
+#[inline]
 pub(crate) fn size_of(header: perf_event_header) -> usize
     ensures { result ≡ pieces.size_of header }
 {
@@ -97,6 +102,7 @@ pub(crate) fn size_of(header: perf_event_header) -> usize
 }
 
 // The header of what was found.
+#[inline]
 pub fn header_of(frame: &Result<Frame<'_, '_>, BadFrame>) -> perf_event_header
     ensures { result ≡ pieces.header_seen (sight_of frame.now) }
 {
@@ -107,6 +113,7 @@ pub fn header_of(frame: &Result<Frame<'_, '_>, BadFrame>) -> perf_event_header
 }
 
 // The owner of what was found.
+#[inline(always)]
 fn owner_of_found(recording: &Recording<'_>, frame: &Result<Frame<'_, '_>, BadFrame>) -> Owner
     ensures { result ≡ owner_of_sight (view recording.now) (sight_of frame.now) }
 {
@@ -114,6 +121,7 @@ fn owner_of_found(recording: &Recording<'_>, frame: &Result<Frame<'_, '_>, BadFr
 }
 
 // The offset in the file at which these bytes of its frames are left.
+#[inline]
 fn place_in(recording: &Recording<'_>, bytes: &[u8]) -> usize
     ensures { result ≡ pieces.place_in (view recording.now) bytes.now }
 {
@@ -121,6 +129,7 @@ fn place_in(recording: &Recording<'_>, bytes: &[u8]) -> usize
 }
 
 // The first frame of what is left of the frames of a file, and the bytes after it.
+#[inline(always)]
 fn cut_first<'p>(recording: &Recording<'_>, bytes: &'p [u8]) -> Option<(FileFrame<'p>, &'p [u8])>
     ensures { MatchOption result (length bytes.now < 8) (λ found. (8 ≤ length bytes.now)
         × (pieces.piece_of found.0 ≡ pieces.piece_in (view recording.now) bytes.now)
@@ -141,6 +150,7 @@ fn cut_first<'p>(recording: &Recording<'_>, bytes: &'p [u8]) -> Option<(FileFram
 }
 
 // The first frame of what is left, which is at least a header.
+#[inline]
 fn first_of<'p>(recording: &Recording<'_>, bytes: &'p [u8]) -> FileFrame<'p>
     requires { 8 ≤ length bytes.now }
     ensures { pieces.piece_of result ≡ pieces.piece_in (view recording.now) bytes.now }
@@ -152,6 +162,7 @@ fn first_of<'p>(recording: &Recording<'_>, bytes: &'p [u8]) -> FileFrame<'p>
 }
 
 /// What is left of the frames of a file at an offset of the file, if that is at least a header.
+#[inline]
 pub fn left_at<'p>(recording: &Recording<'p>, at: usize) -> Option<&'p [u8]>
     ensures value { option_map (λ b. b.now) result ≡ pieces.left_at (view recording.now) at }
     ensures long { IfSome result (λ b. 8 ≤ length b.now) }
@@ -178,6 +189,7 @@ impl<'p> Iterator for FileFrames<'_, 'p> {
         pieces.pieces (view s.recording.now) s.left.now) };
 
     #[tactic(auto, using(crate::proofs::Laws::next_piece, crate::proofs::Laws::no_piece))]
+    #[inline]
     fn next(&mut self) -> Option<FileFrame<'p>> {
         let (found, after) = cut_first(self.recording, self.left)?;
         self.left = after;
@@ -188,6 +200,7 @@ impl<'p> Iterator for FileFrames<'_, 'p> {
 impl<'p> Recording<'p> {
     /// Its frames, each once, in the order of the file. What is left at their end is fewer bytes
     /// than a header has.
+    #[inline]
     pub fn frames(&self) -> FileFrames<'_, 'p>
         ensures recording { result.recording.now ≡ self.now }
         ensures left { result.left.now ≡ (view self.now).frames }
@@ -201,6 +214,7 @@ impl<'p> Recording<'p> {
 
     /// The frame that begins at the offset of an entry, or what is there if the entry is of
     /// another file. None outside the frames of this file.
+    #[inline]
     pub fn frame_at(&self, entry: &Entry) -> Option<FileFrame<'p>>
         ensures { option_map pieces.piece_of result ≡ pieces.piece_at (view self.now) entry.now.at }
     {

@@ -23,6 +23,7 @@ pub enum Owner {
 }
 
 // Whether records of the first event other than SAMPLE end with a sample id.
+#[inline]
 fn first_has_ids(events: &[Event<'_>]) -> bool
     ensures { result ≡ owners.first_has_ids (attributes_of (map event_view events.now)) }
 {
@@ -37,6 +38,7 @@ impl Recording<'_> {
     ghost use Rattle.perf_file.specs.Views.{view};
 
     // What the event of a frame depends on.
+    #[inline]
     pub(crate) fn finder(&self) -> Finder<'_>
         ensures { Finds (view self.now) result }
     {

@@ -1,5 +1,6 @@
 //! The tests.
 
+mod changed;
 mod features;
 mod files;
 mod many;

@@ -103,7 +103,8 @@ fn push_words(text: &mut String, recording: &Recording<'_>) -> Result<(), AllocE
     text.push_str("\n")
 }
 
-fn push_builds(text: &mut String, recording: &Recording<'_>) -> Result<(), AllocError> {
+/// Appends the build ids of a file.
+pub fn push_builds(text: &mut String, recording: &Recording<'_>) -> Result<(), AllocError> {
     match recording.build_ids() {
         Ok(Some(builds)) => {
             for build in builds {

@@ -1,5 +1,6 @@
 //! What `perf record` writes to a pipe.
 
+use crate::tests::features::push_builds;
 use crate::tests::files::little;
 use crate::tests::opened::frame_lines;
 use perf_base::ErrorKind;
@@ -7,11 +8,11 @@ use perf_file::{EscapedBytes, OpenError, Recording};
 use std::alloc::{AllocError, Global};
 use std::process::Abort;
 
-const WORDS: usize = 55;
+pub const WORDS: usize = 55;
 
 // A pipe of two events with the sample type TIME and IDENTIFIER. A header is the type, `misc` from bit
 // 32 on, and the size from bit 48 on.
-const PIPE: [u64; WORDS] = [
+pub const PIPE: [u64; WORDS] = [
     // the head: magic and its size
     0x3245_4c49_4652_4550,
     16,
@@ -206,5 +207,75 @@ fn each_cut_of_a_pipe(rt: HostRuntime) {
             _ => None,
         };
         assert_eq!(rt; opened(&rt, WORDS, 0, kept), want, "{kept} bytes");
+    }
+}
+
+// Two frames of build ids: a program's of process 7, of which 18 bytes count, `/bin/ls`, and the
+// kernel's, `[k]`.
+const BUILDS: [u64; 11] = [
+    67 + (0x8002 << 32) + (48 << 48),
+    7 + (0x0403_0201 << 32),
+    0x0c0b_0a09_0807_0605,
+    0x1413_1211_100f_0e0d,
+    18 + (0x6e69_622f << 32),
+    0x0073_6c2f,
+    67 + (1 << 32) + (40 << 48),
+    0xffff_ffff + (0xaaaa_aaaa << 32),
+    0xaaaa_aaaa_aaaa_aaaa,
+    0xaaaa_aaaa_aaaa_aaaa,
+    3 + (0x005d_6b5b << 32),
+];
+
+// Which number of these frames is another, and the build ids then.
+const BUILD_ROWS: [(usize, u64, &str); 6] = [
+    (
+        11,
+        0,
+        "32770 7 18 0102030405060708090a0b0c0d0e0f101112 /bin/ls;1 4294967295 20 aaaaaaaaaaaaaaaaaaaaaaaaaaaaaaaaaaaaaaaa [k];\n",
+    ),
+    // another type
+    (
+        0,
+        68 + (48 << 48),
+        "1 4294967295 20 aaaaaaaaaaaaaaaaaaaaaaaaaaaaaaaaaaaaaaaa [k];\n",
+    ),
+    // no path
+    (
+        6,
+        67 + (1 << 32) + (36 << 48),
+        "32770 7 18 0102030405060708090a0b0c0d0e0f101112 /bin/ls;1 4294967295 20 aaaaaaaaaaaaaaaaaaaaaaaaaaaaaaaaaaaaaaaa ;\n",
+    ),
+    // too few bytes, and a frame that is not whole
+    (6, 67 + (1 << 32) + (35 << 48), "short\n"),
+    (6, 67 + (1 << 32) + (48 << 48), "short\n"),
+    // neither frame
+    (0, 68 + (88 << 48), "-\n"),
+];
+
+// The build ids of the pipe with these frames, of which one number is another.
+fn builds_of(alloc: Global, place: usize, number: u64) -> Result<String, AllocError> {
+    let mut words = [0; WORDS + 11];
+    for index in 0..WORDS {
+        words[index] = PIPE[index];
+    }
+    for index in 0..11 {
+        words[WORDS + index] = if index == place { number } else { BUILDS[index] };
+    }
+    let bytes = little(alloc, &words)?;
+    let mut text = String::new(alloc);
+    match Recording::open(alloc, &bytes) {
+        Ok(recording) => push_builds(&mut text, &recording)?,
+        Err(error) => text.push_str(error.message())?,
+    }
+    Ok(text)
+}
+
+#[test]
+fn build_ids_of_a_pipe(rt: HostRuntime) {
+    for &(place, number, want) in &BUILD_ROWS {
+        match builds_of(rt.alloc(), place, number) {
+            Ok(text) => assert_eq!(rt; text.as_str(), want, "number {place}"),
+            Err(_) => panic!(rt; "no memory"),
+        }
     }
 }

@@ -4,7 +4,7 @@ use Rattle.std.proofs.lemmas.List.{get_or_default}
 use Rattle.perf_file.specs.declared.ids.IdOfEvent.{IdOfEvent}
 use Rattle.perf_file.proofs.Tables.{pair}
 use Rattle.perf_file.proofs.Rising.{found_at, absent}
-use Rattle.perf_file.proofs.ids.event_of.Goals as goal
+use Rattle.perf_file.proofs.ids.event_by_search.Goals as goal
 
 pub returns-then-at-table : goal.returns-then-at-table
 returns-then-at-table c sorted =
