@@ -1,4 +1,6 @@
 pub mod Counted
+pub mod Datas
+pub mod Floats
 pub mod Naming
 pub mod Records
 pub mod Tallies

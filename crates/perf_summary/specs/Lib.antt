@@ -4,4 +4,6 @@ pub mod Steps
 pub mod TypeNames
 pub mod SummaryText
 pub mod OwnLines
+pub mod SummaryJson
+pub mod OwnData
 pub mod Shown

@@ -4,6 +4,7 @@
 mod contents;
 pub mod counting;
 pub mod counts;
+mod json;
 pub mod run;
 mod text;
 mod type_names;

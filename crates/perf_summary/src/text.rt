@@ -92,7 +92,7 @@ fn push_events(
 }
 
 // The counts at an index.
-fn count_at(counts: &[EventCount], index: usize) -> EventCount
+pub(crate) fn count_at(counts: &[EventCount], index: usize) -> EventCount
     requires { index < length counts.now }
     ensures { result ≡ slice_index_or counts.now index no_count }
 {
