@@ -22,13 +22,13 @@
 //! With 2 and 3 the reason is printed on standard error. `--help` prints the words.
 #![tactic(auto)]
 
+mod ending;
 mod folding;
 mod summing;
 
+use crate::ending::report;
 use clap::{Arg, ArgAction, ArgMatches, Command};
 use perf_data_text::run::{Show, run, status_after};
-use perf_file::OpenError;
-use perf_lines::outcome::Outcome;
 use perf_script::write_script;
 use std::alloc::{AllocError, Global};
 use std::io::{IsTerminal, Read};
@@ -183,13 +183,4 @@ fn note_progress(rt: &HostRuntime, path: &str, len: usize) -> io::Result<()> {
     }
     let megabytes = len >> 20;
     eprintln!(rt; "perf_data: {path}: {megabytes} MiB are read, and their text is made")
-}
-
-// Prints on standard error why a run ended early.
-fn report(rt: &HostRuntime, path: &str, ended: &Result<Outcome, OpenError>) -> io::Result<()> {
-    match ended {
-        Err(error) => eprintln!(rt; "perf_data: {path}: {error}"),
-        Ok(Outcome::Stopped) => eprintln!(rt; "perf_data: the output cannot be written"),
-        Ok(_) => Ok(()),
-    }
 }

@@ -12,6 +12,10 @@ use Rattle.perf_summary.specs.Counts.{AreCounts, is_refused, event_count, of_eve
 use Rattle.perf_summary.specs.OwnData.{own_events_data, own_types_data, own_data}
 use Rattle.perf_summary.specs.Steps.{no_count}
 use Rattle.perf_summary.specs.SummaryJson.{event_data, events_data, type_data, types_data, other_data, parts_data, feature_data, words_data, printed_data, summary_data}
+use Rattle.perf_summary.specs.ThreadText.{threads_data}
+use Rattle.perf_threads.specs.Threads.{plain_threads}
+use Rattle.perf_threads.specs.declared.threads.Thread.{Thread}
+use Rattle.perf_summary.proofs.PlainThreads.{datas_plain}
 use Rattle.perf_summary.specs.declared.contents.Contents.{Contents}
 use Rattle.perf_summary.specs.declared.counts.Counts.{Counts}
 use Rattle.perf_summary.specs.declared.counts.EventCount.{EventCount}
@@ -72,10 +76,10 @@ types_data_alike f g (suc n) same =
 
 -- ---- all
 
-pub summary_alike : (naming : ℕ → FileEvent → Name) (f : File) (bytes : List ℕ) (events : List Event) (xs : List Contents) (c : Counts) → AreCounts (length events) xs c →
+pub summary_alike : (naming : ℕ → FileEvent → Name) (f : File) (bytes : List ℕ) (events : List Event) (xs : List Contents) (c : Counts) (threads : List ((ℕ × ℕ) × Thread)) → AreCounts (length events) xs c →
     f.events ≡ map event_view events → ((n : ℕ) (d : Event) → n < length events → name_view (get_or events n d).name ≡ naming n (event_view (get_or events n d))) →
-    own_data f.order bytes events c ≡ summary_data f bytes naming xs
-summary_alike naming f bytes events xs c are seen named =
+    own_data f.order bytes events c threads ≡ summary_data f bytes naming xs (plain_threads threads)
+summary_alike naming f bytes events xs c threads are seen named =
     let cs : ℕ → EventCount = λ n. event_count (of_event n xs) in
     let ts : ℕ → ℕ = λ ty. type_count ty xs in
     let counts : own_events_data c.events.items 0 events ≡ events_data naming cs 0 f.events =
@@ -91,8 +95,8 @@ summary_alike naming f bytes events xs c are seen named =
     let line : Data = feature_data words_data (command_line_of f.order bytes) in
     let host : Data = feature_data printed_data (text_of f.order bytes 3) in
     let release : Data = feature_data printed_data (text_of f.order bytes 4) in
-    ap (λ es. parts_data line es c.frames host release c.refused (own_types_data c.types.items (length c.types.items) ++ other_data c.other_types)) counts
-    ∙ ap (λ n. parts_data line (events_data naming cs 0 f.events) n host release c.refused (own_types_data c.types.items (length c.types.items) ++ other_data c.other_types)) frames
-    ∙ ap (λ n. parts_data line (events_data naming cs 0 f.events) (length xs) host release n (own_types_data c.types.items (length c.types.items) ++ other_data c.other_types)) refused
-    ∙ ap (λ ty. parts_data line (events_data naming cs 0 f.events) (length xs) host release (count_by is_refused xs) (ty ++ other_data c.other_types)) types
-    ∙ ap (λ n. parts_data line (events_data naming cs 0 f.events) (length xs) host release (count_by is_refused xs) (types_data ts 128 ++ other_data n)) others
+    ap (λ es. parts_data line es c.frames host release c.refused (threads_data threads) (own_types_data c.types.items (length c.types.items) ++ other_data c.other_types)) counts
+    ∙ ap (λ n. parts_data line (events_data naming cs 0 f.events) n host release c.refused (threads_data threads) (own_types_data c.types.items (length c.types.items) ++ other_data c.other_types)) frames
+    ∙ ap (λ n. parts_data line (events_data naming cs 0 f.events) (length xs) host release n (threads_data threads) (own_types_data c.types.items (length c.types.items) ++ other_data c.other_types)) refused
+    ∙ ap (λ ty. parts_data line (events_data naming cs 0 f.events) (length xs) host release (count_by is_refused xs) (threads_data threads) (ty ++ other_data c.other_types)) types
+    ∙ ap (λ n. parts_data line (events_data naming cs 0 f.events) (length xs) host release (count_by is_refused xs) (threads_data threads) (types_data ts 128 ++ other_data n)) others

@@ -11,7 +11,10 @@ use Rattle.perf_file.specs.Names.{name_view, name_text}
 use Rattle.perf_file.specs.declared.events.Event.{Event}
 use Rattle.perf_file.specs.declared.feature.BadFeature.{BadFeature}
 use Rattle.perf_summary.specs.OwnData.{own_events_data, own_types_data, own_data}
+use Rattle.perf_summary.specs.Datas.{number_data}
 use Rattle.perf_summary.specs.Steps.{no_count}
+use Rattle.perf_summary.specs.ThreadText.{thread_data, threads_data}
+use Rattle.perf_threads.specs.declared.threads.Thread.{Thread}
 use Rattle.perf_summary.specs.SummaryJson.{number_data, type_object, printed_data, words_data, feature_data, event_data, type_data, types_data, other_data}
 use Rattle.perf_summary.specs.TypeNames.{type_name}
 use Rattle.perf_summary.specs.declared.counts.Counts.{Counts}
@@ -50,6 +53,9 @@ none_feature stated none (Err e) = refl
 none_event : (c : EventCount) (name : List ℕ) → has_float (event_data c name) ≡ false
 none_event c name = rw (none_number c.first, none_number c.last) refl
 
+none_thread : (t : (ℕ × ℕ) × Thread) → has_float (thread_data t) ≡ false
+none_thread t = rw (none_number t.1.end, none_number t.1.start) refl
+
 none_type : (ty count : ℕ) → any_float (type_data ty count) ≡ false
 none_type ty count = go (count == 0) where
   go : (b : Bool) → any_float (if b then [] else type_object count (type_name ty) (Some ty) ∷ []) ≡ false
@@ -66,15 +72,16 @@ none_other count = go (count == 0) where
   go true = refl
   go false = refl
 
-pub no_float : (order : Dynamic) (bytes : List ℕ) (events : List Event) (c : Counts) → has_float (own_data order bytes events c) ≡ false
-no_float order bytes events c =
+pub no_float : (order : Dynamic) (bytes : List ℕ) (events : List Event) (c : Counts) (threads : List ((ℕ × ℕ) × Thread)) → has_float (own_data order bytes events c threads) ≡ false
+no_float order bytes events c threads =
     let command : has_float (feature_data words_data (command_line_of order bytes)) ≡ false = none_feature words_data (λ words. none_map printed_data (λ x. refl) words) (command_line_of order bytes) in
     let counts : any_float (own_events_data c.events.items 0 events) ≡ false =
     none_map (λ numbered. event_data (get_or c.events.items numbered.0 no_count) (name_text (name_view numbered.1.name)))
     (λ numbered. none_event (get_or c.events.items numbered.0 no_count) (name_text (name_view numbered.1.name))) (enumerate_from 0 events) in
     let host : has_float (feature_data printed_data (text_of order bytes 3)) ≡ false = none_feature printed_data (λ x. refl) (text_of order bytes 3) in
     let release : has_float (feature_data printed_data (text_of order bytes 4)) ≡ false = none_feature printed_data (λ x. refl) (text_of order bytes 4) in
+    let tasks : any_float (threads_data threads) ≡ false = none_map thread_data none_thread threads in
     let types : any_float (own_types_data c.types.items (length c.types.items) ++ other_data c.other_types) ≡ false =
     none_append (own_types_data c.types.items (length c.types.items)) (other_data c.other_types)
     (none_types (λ ty. get_or c.types.items ty 0) (length c.types.items)) (none_other c.other_types) in
-    rw (command, counts, host, release, types) refl
+    rw (command, counts, host, release, tasks, types) refl

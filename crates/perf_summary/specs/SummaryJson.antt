@@ -1,8 +1,7 @@
 -- The summary of a file as JSON.
 use Rattle.std.specs.Prelude.{ℕ, zero, suc, ◌==◌, true, List, [], ◌∷◌, ◌++◌, codes, length, map, count_by, Option, Some, None, Result, Ok, Err, if◌then◌else◌}
 use Rattle.std.specs.List.{enumerate_from}
-use Rattle.serde_json.specs.Data.{Data, null, boolean, number, string, array, object, unsigned, member, no_members}
-use Rattle.serde_json.specs.View.{items_of}
+use Rattle.serde_json.specs.Data.{Data, null, boolean, string, object, member, no_members}
 use Rattle.serde_json.specs.Written.{compact_text}
 use Rattle.perf_file.specs.FeatureTexts.{text_of, command_line_of}
 use Rattle.perf_file.specs.Names.{Name, name_text}
@@ -11,24 +10,12 @@ use Rattle.perf_file.specs.declared.feature.BadFeature.{BadFeature}
 use Rattle.perf_data_text.specs.HeaderText.{printed}
 use Rattle.perf_summary.specs.Contents.{all_contents}
 use Rattle.perf_summary.specs.Counts.{is_refused, event_count, of_event, type_count, other_count}
+use Rattle.perf_summary.specs.Datas.{count_data, list_data, number_data}
+use Rattle.perf_summary.specs.ThreadText.{threads_data}
 use Rattle.perf_summary.specs.TypeNames.{type_name}
+use Rattle.perf_threads.specs.declared.threads.Thread.{Thread}
 use Rattle.perf_summary.specs.declared.contents.Contents.{Contents}
 use Rattle.perf_summary.specs.declared.counts.EventCount.{EventCount}
-
--- ---- parts
-
--- a number
-abbrev pub count_data : ℕ → Data
-count_data n = number (unsigned n)
-
--- a list
-abbrev pub list_data : List Data → Data
-list_data xs = array (items_of xs)
-
--- a number, `null` if it is not known
-abbrev pub number_data : Option ℕ → Data
-number_data (Some n) = count_data n
-number_data None = null
 
 -- ---- the machine and the command
 
@@ -93,28 +80,31 @@ other_data count = if count == 0 then [] else type_object count (codes "other") 
 -- ---- all
 
 -- the object of these parts
-abbrev pub parts_data : (command_line : Data) (events : List Data) (frames : ℕ) (hostname os_release : Data) (refused : ℕ) (types : List Data) → Data
-parts_data command_line events frames hostname os_release refused types = object
+abbrev pub parts_data : (command_line : Data) (events : List Data) (frames : ℕ) (hostname os_release : Data) (refused : ℕ) (threads types : List Data) → Data
+parts_data command_line events frames hostname os_release refused threads types = object
     (member (codes "command_line") command_line
     (member (codes "events") (list_data events)
     (member (codes "frames") (count_data frames)
     (member (codes "hostname") hostname
     (member (codes "os_release") os_release
     (member (codes "refused") (count_data refused)
+    (member (codes "threads") (list_data threads)
     (member (codes "types") (list_data types)
-    no_members)))))))
+    no_members))))))))
 
--- the summary of a file with these bytes, whose events have these names, and whose frames add this
-abbrev pub summary_data : File → (bytes : List ℕ) → (naming : ℕ → FileEvent → Name) → List Contents → Data
-summary_data f bytes naming xs =
+-- the summary of a file with these bytes, whose events have these names, whose frames add this, and with
+-- these threads
+abbrev pub summary_data : File → (bytes : List ℕ) → (naming : ℕ → FileEvent → Name) → List Contents → List ((ℕ × ℕ) × Thread) → Data
+summary_data f bytes naming xs threads =
     parts_data (feature_data words_data (command_line_of f.order bytes))
     (events_data naming (λ n. event_count (of_event n xs)) 0 f.events)
     (length xs)
     (feature_data printed_data (text_of f.order bytes 3))
     (feature_data printed_data (text_of f.order bytes 4))
     (count_by is_refused xs)
+    (threads_data threads)
     (types_data (λ ty. type_count ty xs) 128 ++ other_data (other_count xs))
 
 -- its text: one line
-abbrev pub json_text : File → (bytes : List ℕ) → (naming : ℕ → FileEvent → Name) → List ℕ
-json_text f bytes naming = compact_text (summary_data f bytes naming (all_contents f)) ++ codes "\n"
+abbrev pub json_text : File → (bytes : List ℕ) → (naming : ℕ → FileEvent → Name) → List ((ℕ × ℕ) × Thread) → List ℕ
+json_text f bytes naming threads = compact_text (summary_data f bytes naming (all_contents f) threads) ++ codes "\n"

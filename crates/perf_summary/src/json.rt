@@ -8,6 +8,7 @@ ghost use Rattle.perf_file.specs.Names.{Name, name_view, name_text};
 ghost use Rattle.perf_file.specs.Opened.{FileEvent};
 ghost use Rattle.perf_file.specs.Views.{view};
 ghost use Rattle.perf_data_text.specs.OwnNames.{AreNamedBy};
+ghost use Rattle.perf_threads.specs.Threads.{plain_threads};
 ghost use Rattle.perf_summary.specs.OwnData as own;
 ghost use Rattle.perf_summary.specs.SummaryJson as jsons;
 ghost use Rattle.perf_summary.specs.SummaryText.{is_any_refused, is_machine_refused};
@@ -15,25 +16,30 @@ ghost use Rattle.perf_summary.specs.SummaryText.{is_any_refused, is_machine_refu
 use crate::counting::counts_of;
 use crate::counts::{Counts, EventCount};
 use crate::text::count_at;
+use crate::threads::thread_values;
 use crate::type_names::type_name;
 use perf_file::{BadFeature, CommandLine, EscapedBytes, Event, Recording};
+use perf_threads::{Thread, ThreadId};
 use serde_json::{Value, json};
 use std::alloc::{AllocError, Global};
+use std::collections::BTreeMap;
 
-/// The summary of a file as one line of JSON, an object whose members are in the order of their names;
+/// The summary of a file with these threads as one line of JSON, an object whose members are in the order of their names;
 /// and whether a frame or a feature in it is refused.
 pub fn json_of_summary(
     alloc: Global,
     recording: &Recording<'_>,
+    threads: &BTreeMap<ThreadId, Thread<'_>>,
 ) -> Result<(String, bool), AllocError>
     ensures text { (naming : ℕ → FileEvent → Name) → AreNamedBy recording.now naming →
         IfOk result (λ made. string_bytes made.0
-        ≡ jsons.json_text (view recording.now) recording.now.bytes.now naming) }
+        ≡ jsons.json_text (view recording.now) recording.now.bytes.now naming
+        (plain_threads threads.now.entries)) }
     ensures refused { IfOk result (λ made. made.1
         ≡ is_any_refused (view recording.now) recording.now.bytes.now) }
 {
     let counts = counts_of(alloc, recording)?;
-    let value = summary_value(alloc, recording, &counts)?;
+    let value = summary_value(alloc, recording, &counts, threads)?;
     let mut text = value.to_string(alloc)?;
     text.push_str("\n")?;
     Ok((text, is_refused(recording) || counts.refused != 0))
@@ -48,20 +54,22 @@ fn is_refused(recording: &Recording<'_>) -> bool
         || recording.command_line().is_err()
 }
 
-// The summary by its counts.
+// The summary by its counts, and with these threads.
 fn summary_value(
     alloc: Global,
     recording: &Recording<'_>,
     counts: &Counts,
+    threads: &BTreeMap<ThreadId, Thread<'_>>,
 ) -> Result<Value, AllocError>
     requires { length counts.now.events.items ≡ length recording.now.events.items }
     ensures { IfOk result (λ value. data_of value ≡ own.own_data recording.now.order
-        recording.now.bytes.now recording.now.events.items counts.now) }
+        recording.now.bytes.now recording.now.events.items counts.now threads.now.entries) }
 {
     let command_line = words_value(alloc, recording.command_line())?;
     let events = event_values(alloc, recording.events(), &counts.events)?;
     let hostname = text_value(alloc, recording.hostname())?;
     let os_release = text_value(alloc, recording.os_release())?;
+    let threads = thread_values(alloc, threads)?;
     let types = type_values(alloc, &counts.types, counts.other_types)?;
     json!(in alloc; {
         "command_line": command_line,
@@ -70,6 +78,7 @@ fn summary_value(
         "hostname": hostname,
         "os_release": os_release,
         "refused": counts.refused,
+        "threads": threads,
         "types": types
     })
 }
@@ -90,10 +99,7 @@ fn refused_value(alloc: Global) -> Result<Value, AllocError>
 }
 
 // A text that a file may have.
-fn text_value(
-    alloc: Global,
-    found: Result<Option<&[u8]>, BadFeature>,
-) -> Result<Value, AllocError>
+fn text_value(alloc: Global, found: Result<Option<&[u8]>, BadFeature>) -> Result<Value, AllocError>
     ensures { IfOk result (λ value. data_of value
         ≡ jsons.feature_data jsons.printed_data (seen (λ b. b.now) found.entry)) }
 {
@@ -150,11 +156,7 @@ fn event_values(
 }
 
 // An event.
-fn event_value(
-    alloc: Global,
-    event: &Event<'_>,
-    count: &EventCount,
-) -> Result<Value, AllocError>
+fn event_value(alloc: Global, event: &Event<'_>, count: &EventCount) -> Result<Value, AllocError>
     ensures { IfOk result (λ value. data_of value
         ≡ jsons.event_data count.now (name_text (name_view event.now.name))) }
 {

@@ -7,4 +7,5 @@ pub mod counts;
 mod json;
 pub mod run;
 mod text;
+mod threads;
 mod type_names;

@@ -1,11 +1,13 @@
 //! The engine of the command: opens a file and writes its summary.
 
-ghost use Rattle.std.specs.Prelude.{◌≡◌, ℕ, IfOk, string_bytes};
+ghost use Rattle.std.specs.Prelude.{◌≡◌, ℕ, IfOk, List, string_bytes};
 ghost use Rattle.perf_file.specs.Names.{Name};
 ghost use Rattle.perf_file.specs.Opened.{FileEvent};
 ghost use Rattle.perf_file.specs.Views.{view};
 ghost use Rattle.perf_data_text.specs.OwnNames.{AreNamedBy};
 ghost use Rattle.perf_data_text.specs.Shown.{Writes};
+ghost use Rattle.perf_threads.specs.Threads.{AreThreadsOf};
+ghost use Rattle.perf_threads.specs.declared.threads.Thread.{Thread};
 ghost use Rattle.perf_summary.specs.Shown as shown;
 ghost use Rattle.perf_summary.specs.SummaryText.{is_any_refused};
 
@@ -14,6 +16,7 @@ use crate::text::text_of_summary;
 use perf_file::{OpenError, Recording};
 use perf_lines::outcome::Outcome;
 use perf_lines::output::write_whole;
+use perf_threads::threads_of;
 use std::alloc::{AllocError, Global};
 use std::io::Write;
 
@@ -51,14 +54,17 @@ fn text_in(
     form: Form,
 ) -> Result<(String, bool), AllocError>
     ensures text { (naming : ℕ → FileEvent → Name) → AreNamedBy recording.now naming →
-        IfOk result (λ made. string_bytes made.0
-        ≡ shown.text_in form (view recording.now) recording.now.bytes.now naming) }
+        IfOk result (λ made. (threads : List ((ℕ × ℕ) × Thread))
+        × AreThreadsOf (view recording.now) threads
+        × (string_bytes made.0
+        ≡ shown.text_in form (view recording.now) recording.now.bytes.now naming threads)) }
     ensures refused { IfOk result (λ made. made.1
         ≡ is_any_refused (view recording.now) recording.now.bytes.now) }
 {
+    let threads = threads_of(alloc, recording)?;
     match form {
-        Form::Text => text_of_summary(alloc, recording),
-        Form::Json => json_of_summary(alloc, recording),
+        Form::Text => text_of_summary(alloc, recording, &threads),
+        Form::Json => json_of_summary(alloc, recording, &threads),
     }
 }
 

@@ -58,9 +58,9 @@ start_more xs x =
     ap first_of (times_more xs (x ∷ []) ∙ ap (λ ts. times_of xs ++ ts) (one_time x))
     ∙ first_more (times_of xs) (if x.time == 0 then [] else x.time ∷ [])
     ∙ go (first_of (times_of xs)) where
-  go : (o : Option ℕ) → or_else o (first_of (if x.time == 0 then [] else x.time ∷ [])) ≡ or_first o x.time
-  go (Some t) = refl
-  go None = first_known x.time
+      go : (o : Option ℕ) → or_else o (first_of (if x.time == 0 then [] else x.time ∷ [])) ≡ or_first o x.time
+      go (Some t) = refl
+      go None = first_known x.time
 
 last_time : (ts : List ℕ) (t : ℕ) → last_of (ts ++ (if t == 0 then [] else t ∷ [])) ≡ or_last (last_of ts) t
 last_time ts t = go (t == 0) where
@@ -72,9 +72,9 @@ end_more : (xs : List Fact) (x : Fact) → last_of (times_of (filter is_exit (xs
 end_more xs x =
     ap (λ ys. last_of (times_of ys)) (filter-append is_exit xs (x ∷ []))
     ∙ ap last_of (times_more (filter is_exit xs) (filter is_exit (x ∷ []))) ∙ go (is_exit x) where
-  go : (b : Bool) → last_of (times_of (filter is_exit xs) ++ times_of (if b then x ∷ [] else [])) ≡ (if b then or_last (last_of (times_of (filter is_exit xs))) x.time else last_of (times_of (filter is_exit xs)))
-  go true = ap (λ ts. last_of (times_of (filter is_exit xs) ++ ts)) (one_time x) ∙ last_time (times_of (filter is_exit xs)) x.time
-  go false = ap last_of (append-nil (times_of (filter is_exit xs)))
+      go : (b : Bool) → last_of (times_of (filter is_exit xs) ++ times_of (if b then x ∷ [] else [])) ≡ (if b then or_last (last_of (times_of (filter is_exit xs))) x.time else last_of (times_of (filter is_exit xs)))
+      go true = ap (λ ts. last_of (times_of (filter is_exit xs) ++ ts)) (one_time x) ∙ last_time (times_of (filter is_exit xs)) x.time
+      go false = ap last_of (append-nil (times_of (filter is_exit xs)))
 
 -- ---- threads
 
@@ -114,11 +114,12 @@ pub thread_more : (xs : List Fact) (x : Fact) (who : ℕ × ℕ)
     → option_map wrapped (thread_of (xs ++ x ∷ []) who) ≡ (if is_same x.who who then Some (grown (or_none (option_map wrapped (thread_of xs who))) x) else option_map wrapped (thread_of xs who))
 thread_more xs x who =
     ap (λ ys. option_map wrapped (option_map (thread_by ys) (last_of ys))) (filter-append (λ (y : Fact). is_same y.who who) xs (x ∷ [])) ∙ go (is_same x.who who) where
-  mine : List Fact
-  mine = of_thread who xs
-  go : (b : Bool) → option_map wrapped (option_map (thread_by (mine ++ (if b then x ∷ [] else []))) (last_of (mine ++ (if b then x ∷ [] else []))))
-      ≡ (if b then Some (grown (or_none (option_map wrapped (thread_of xs who))) x) else option_map wrapped (thread_of xs who))
-  go true =
-      ap (λ o. option_map wrapped (option_map (thread_by (mine ++ x ∷ [])) o)) (last_more mine x)
-      ∙ ap Some (grown_by mine x (or_none (option_map wrapped (thread_of xs who))) (has_state mine))
-  go false = ap (λ ys. option_map wrapped (option_map (thread_by ys) (last_of ys))) (append-nil mine)
+      mine : List Fact
+      mine = of_thread who xs
+
+      go : (b : Bool) → option_map wrapped (option_map (thread_by (mine ++ (if b then x ∷ [] else []))) (last_of (mine ++ (if b then x ∷ [] else []))))
+          ≡ (if b then Some (grown (or_none (option_map wrapped (thread_of xs who))) x) else option_map wrapped (thread_of xs who))
+      go true =
+          ap (λ o. option_map wrapped (option_map (thread_by (mine ++ x ∷ [])) o)) (last_more mine x)
+          ∙ ap Some (grown_by mine x (or_none (option_map wrapped (thread_of xs who))) (has_state mine))
+      go false = ap (λ ys. option_map wrapped (option_map (thread_by ys) (last_of ys))) (append-nil mine)

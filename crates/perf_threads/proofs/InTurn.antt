@@ -85,6 +85,7 @@ facts_below f [] known = omega arith
 facts_below f (e ∷ es) known = go (fact_at f e known) where
   rest : List Fact
   rest = facts f es (known_after f e known)
+
   go : (x : Option Fact) → length (cons_option x rest) ≤ length (e ∷ es)
   go (Some x) = omega (arith, facts_below f es (known_after f e known))
   go None = omega (arith, facts_below f es (known_after f e known))
@@ -101,6 +102,7 @@ exact : (xs : List Fact) (who : ℕ × ℕ) → length xs < 2 ^ 64 → option_ma
 exact xs who small = go (last_of mine) where
   mine : List Fact
   mine = of_thread who xs
+
   go : (o : Option Fact) → option_map wrapped (option_map (thread_by mine) o) ≡ option_map (thread_by mine) o
   go None = refl
   go (Some x) =
@@ -118,10 +120,10 @@ lookup_plain (e ∷ es) who =
     ap (λ o. cond (is_same who e.0) (Some (plain_thread e.1)) o) (lookup_plain es who)
     ∙ ap (λ b. cond b (Some (plain_thread e.1)) (option_map plain_thread (lookup (is_at (id_cmp who)) es))) (sym (same_id who e.0))
     ∙ go (is_at (id_cmp who) e.0) where
-  go : (b : Bool) → cond b (Some (plain_thread e.1)) (option_map plain_thread (lookup (is_at (id_cmp who)) es))
-      ≡ option_map plain_thread (cond b (Some e.1) (lookup (is_at (id_cmp who)) es))
-  go true = refl
-  go false = refl
+      go : (b : Bool) → cond b (Some (plain_thread e.1)) (option_map plain_thread (lookup (is_at (id_cmp who)) es))
+          ≡ option_map plain_thread (cond b (Some e.1) (lookup (is_at (id_cmp who)) es))
+      go true = refl
+      go false = refl
 
 pub all_threads : (f : File) (entries left : List Entry) (known : List Change) (threads : BTreeMap (ℕ × ℕ) Thread) → left ≡ [] → length entries < 2 ^ 64 → IsOrdered id_cmp threads
     → AreSoFar f entries left known threads → AreThreadsBy (facts f entries []) (plain_threads threads.entries)

@@ -7,9 +7,7 @@ ghost use Rattle.perf_flat.specs.Arrays.{low_u32};
 ghost use Rattle.perf_flat.specs.Flat.{IsFlat};
 ghost use Rattle.perf_threads.specs.Subjects as subjects;
 
-use perf_base::sys::{
-    PERF_RECORD_COMM, PERF_RECORD_EXIT, PERF_RECORD_FORK, PERF_RECORD_SAMPLE,
-};
+use perf_base::sys::{PERF_RECORD_COMM, PERF_RECORD_EXIT, PERF_RECORD_FORK, PERF_RECORD_SAMPLE};
 use perf_flat::frame::FlatFrame;
 
 /// What a frame about a thread is.
@@ -49,19 +47,19 @@ pub(crate) fn subject_in(frame: &FlatFrame) -> Option<Subject>
         });
     }
     if frame.read == PERF_RECORD_COMM {
-        return Some(subject(frame, 1, Kind::Other));
+        return Some(subject_at(frame, 1, Kind::Other));
     }
     if frame.read == PERF_RECORD_EXIT {
-        return Some(subject(frame, 2, Kind::Exit));
+        return Some(subject_at(frame, 2, Kind::Exit));
     }
     if frame.read == PERF_RECORD_FORK {
-        return Some(subject(frame, 2, Kind::Other));
+        return Some(subject_at(frame, 2, Kind::Other));
     }
     None
 }
 
 // The thread whose process is the first number of a frame, and whose id is at an index.
-fn subject(frame: &FlatFrame, index: usize, kind: Kind) -> Subject
+fn subject_at(frame: &FlatFrame, index: usize, kind: Kind) -> Subject
     requires { index < 24 }
     ensures { result ≡ subjects.subject_at frame.now.numbers index kind }
 {

@@ -95,10 +95,7 @@ fn thread_or_none<'p>(threads: &BTreeMap<ThreadId, Thread<'p>>, who: ThreadId) -
 }
 
 // Adds a frame to threads.
-fn add<'p>(
-    threads: &mut BTreeMap<ThreadId, Thread<'p>>,
-    fact: &Fact<'p>,
-) -> Result<(), AllocError>
+fn add<'p>(threads: &mut BTreeMap<ThreadId, Thread<'p>>, fact: &Fact<'p>) -> Result<(), AllocError>
     ensures adds { OnOk result (steps.Adds fact.now threads.old threads.new) }
     ensures ordered { OnOk result (IsOrdered spec.id_cmp threads.new) }
 {

@@ -8,15 +8,15 @@ returns-then-frame-eq-PERF_RECORD_SAMPLE c = λ config o bytes is. of_sample con
 
 pub returns-then-frame-eq-PERF_RECORD_COMM : goal.returns-then-frame-eq-PERF_RECORD_COMM
 returns-then-frame-eq-PERF_RECORD_COMM c = λ config o bytes is.
-    ap (λ s. Some s) c.subject.ensures ∙ of_comm config o bytes c.args.frame.now is c.if-frame-eq-PERF_RECORD_COMM.true
+    ap (λ s. Some s) c.subject_at.ensures ∙ of_comm config o bytes c.args.frame.now is c.if-frame-eq-PERF_RECORD_COMM.true
 
 pub returns-then-frame-eq-PERF_RECORD_EXIT : goal.returns-then-frame-eq-PERF_RECORD_EXIT
 returns-then-frame-eq-PERF_RECORD_EXIT c = λ config o bytes is.
-    ap (λ s. Some s) c.subject.ensures ∙ of_exit config o bytes c.args.frame.now is c.if-frame-eq-PERF_RECORD_EXIT.true
+    ap (λ s. Some s) c.subject_at.ensures ∙ of_exit config o bytes c.args.frame.now is c.if-frame-eq-PERF_RECORD_EXIT.true
 
 pub returns-then-frame-eq-PERF_RECORD_FORK : goal.returns-then-frame-eq-PERF_RECORD_FORK
 returns-then-frame-eq-PERF_RECORD_FORK c = λ config o bytes is.
-    ap (λ s. Some s) c.subject.ensures ∙ of_fork config o bytes c.args.frame.now is c.if-frame-eq-PERF_RECORD_FORK.true
+    ap (λ s. Some s) c.subject_at.ensures ∙ of_fork config o bytes c.args.frame.now is c.if-frame-eq-PERF_RECORD_FORK.true
 
 pub returns : goal.returns
 returns c = λ config o bytes is.
