@@ -100,3 +100,4 @@ summary_alike naming f bytes events xs c threads are seen named =
     ∙ ap (λ n. parts_data line (events_data naming cs 0 f.events) (length xs) host release n (threads_data threads) (own_types_data c.types.items (length c.types.items) ++ other_data c.other_types)) refused
     ∙ ap (λ ty. parts_data line (events_data naming cs 0 f.events) (length xs) host release (count_by is_refused xs) (threads_data threads) (ty ++ other_data c.other_types)) types
     ∙ ap (λ n. parts_data line (events_data naming cs 0 f.events) (length xs) host release (count_by is_refused xs) (threads_data threads) (types_data ts 128 ++ other_data n)) others
+    ∙ ap (λ tasks. parts_data line (events_data naming cs 0 f.events) (length xs) host release (count_by is_refused xs) tasks (types_data ts 128 ++ other_data (other_count xs))) (datas_plain threads)

@@ -15,7 +15,7 @@ use Rattle.perf_summary.specs.Datas.{number_data}
 use Rattle.perf_summary.specs.Steps.{no_count}
 use Rattle.perf_summary.specs.ThreadText.{thread_data, threads_data}
 use Rattle.perf_threads.specs.declared.threads.Thread.{Thread}
-use Rattle.perf_summary.specs.SummaryJson.{number_data, type_object, printed_data, words_data, feature_data, event_data, type_data, types_data, other_data}
+use Rattle.perf_summary.specs.SummaryJson.{type_object, printed_data, words_data, feature_data, event_data, type_data, types_data, other_data}
 use Rattle.perf_summary.specs.TypeNames.{type_name}
 use Rattle.perf_summary.specs.declared.counts.Counts.{Counts}
 use Rattle.perf_summary.specs.declared.counts.EventCount.{EventCount}

@@ -1,6 +1,6 @@
 -- What a frame that was found states about a thread, and the threads after it.
 use Rattle.std.proofs.Common.{◌≡◌, ℕ, Bool, true, false, List, refl, sym, ◌∙◌, ap, subst}
-use Rattle.std.specs.Prelude.{Option, Some, None, option_map, if◌then◌else◌, OnOk, Result, Ok, Err, Unit}
+use Rattle.std.specs.Prelude.{Option, Some, None, option_map, if◌then◌else◌, OnOk, Result}
 use Rattle.std.proofs.lemmas.Result.{on_ok_weaker}
 use Rattle.std.specs.BTreeMap.{BTreeMap, get}
 use Rattle.perf_base.specs.Configuration.{Configuration}

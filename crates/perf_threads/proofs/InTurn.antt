@@ -51,14 +51,13 @@ there_if : (done : List Fact) (x : Option Fact) (rest : List Fact) → if_there 
 there_if done (Some x) rest = append_assoc done (x ∷ []) rest
 there_if done None rest = refl
 
-pub one_more : (f : File) (entries : List Entry) (i : ℕ) (d : Entry) (known : List Change) (old new : BTreeMap (ℕ × ℕ) Thread) → i < length entries
-    → AreSoFar f entries (drop i entries) known old → AddsPlain (fact_at f (get_or entries i d) known) old new
-    → AreSoFar f entries (drop (i + 1) entries) (known_after f (get_or entries i d) known) new
-one_more f entries i d known old new below so adds =
-    let e : Entry = get_or entries i d in
+pub one_more : (f : File) (entries : List Entry) (i : ℕ) (e : Entry) (known : List Change) (old new : BTreeMap (ℕ × ℕ) Thread) → i < length entries → e ≡ get_or entries i e
+    → AreSoFar f entries (drop i entries) known old → AddsPlain (fact_at f e known) old new → AreSoFar f entries (drop (i + 1) entries) (known_after f e known) new
+one_more f entries i e known old new below is so adds =
     let x : Option Fact = fact_at f e known in
     let next : suc i ≡ i + 1 = omega arith in
-    let split : drop i entries ≡ e ∷ drop (i + 1) entries = drop-cons entries i d below ∙ ap (λ n. e ∷ drop n entries) next in
+    let split : drop i entries ≡ e ∷ drop (i + 1) entries =
+    drop-cons entries i e below ∙ ap (λ (d : Entry). d ∷ drop (suc i) entries) (sym is) ∙ ap (λ n. e ∷ drop n entries) next in
     record {
       done = if_there so.done x;
       all =
@@ -68,34 +67,33 @@ one_more f entries i d known old new below so adds =
     }
 
 -- the same of another view of the same file
-pub moved : (f g : File) (entries : List Entry) (i : ℕ) (d : Entry) (known : List Change) (old new : BTreeMap (ℕ × ℕ) Thread) (history : History) → g ≡ f → i < length entries
-    → AreSoFar f entries (drop i entries) known old → IsPast history (known_after g (get_or entries i d) known) × AddsPlain (fact_at g (get_or entries i d) known) old new
+pub moved : (f g : File) (entries : List Entry) (i : ℕ) (e : Entry) (known : List Change) (old new : BTreeMap (ℕ × ℕ) Thread) (history : History) → g ≡ f → i < length entries → e ≡ get_or entries i e
+    → AreSoFar f entries (drop i entries) known old → IsPast history (known_after g e known) × AddsPlain (fact_at g e known) old new
     → (next : List Change) × IsPast history next × AreSoFar f entries (drop (i + 1) entries) next new
-moved f g entries i d known old new history same below so gone =
-    let e : Entry = get_or entries i d in (
-      known_after f e known,
-      subst (λ (x : File). IsPast history (known_after x e known)) same gone.0,
-      one_more f entries i d known old new below so (subst (λ (x : File). AddsPlain (fact_at x e known) old new) same gone.1),
-    )
+moved f g entries i e known old new history same below is so gone = (
+  known_after f e known,
+  subst (λ (x : File). IsPast history (known_after x e known)) same gone.0,
+  one_more f entries i e known old new below is so (subst (λ (x : File). AddsPlain (fact_at x e known) old new) same gone.1),
+)
 
 -- ---- all
 
+cons_below : (x : Option Fact) (rest : List Fact) (n : ℕ) → length rest ≤ n → length (cons_option x rest) ≤ suc n
+cons_below (Some x) rest n below = omega (arith, below)
+cons_below None rest n below = omega (arith, below)
+
 facts_below : (f : File) (entries : List Entry) (known : List Change) → length (facts f entries known) ≤ length entries
 facts_below f [] known = omega arith
-facts_below f (e ∷ es) known = go (fact_at f e known) where
-  rest : List Fact
-  rest = facts f es (known_after f e known)
+facts_below f (e ∷ es) known =
+    cons_below (fact_at f e known) (facts f es (known_after f e known)) (length es) (facts_below f es (known_after f e known))
 
-  go : (x : Option Fact) → length (cons_option x rest) ≤ length (e ∷ es)
-  go (Some x) = omega (arith, facts_below f es (known_after f e known))
-  go None = omega (arith, facts_below f es (known_after f e known))
+chosen_below : (b : Bool) (x : Fact) (rest : List Fact) (n : ℕ) → length rest ≤ n → length (cond b (x ∷ rest) rest) ≤ suc n
+chosen_below true x rest n below = omega (arith, below)
+chosen_below false x rest n below = omega (arith, below)
 
 filter_below : (p : Fact → Bool) (xs : List Fact) → length (filter p xs) ≤ length xs
 filter_below p [] = omega arith
-filter_below p (x ∷ xs) = go (p x) where
-  go : (b : Bool) → length (if b then x ∷ filter p xs else filter p xs) ≤ length (x ∷ xs)
-  go true = omega (arith, filter_below p xs)
-  go false = omega (arith, filter_below p xs)
+filter_below p (x ∷ xs) = chosen_below (p x) x (filter p xs) (length xs) (filter_below p xs)
 
 -- fewer samples than 2^64 are counted as they are
 exact : (xs : List Fact) (who : ℕ × ℕ) → length xs < 2 ^ 64 → option_map wrapped (thread_of xs who) ≡ thread_of xs who

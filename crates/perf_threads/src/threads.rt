@@ -116,7 +116,8 @@ fn go_on<'p>(
     ensures ordered { IsOrdered spec.id_cmp threads.old → OnOk result (IsOrdered spec.id_cmp threads.new) }
     ensures recording { walk.new.recording.now ≡ walk.old.recording.now }
 {
-    match walk.step(entry)? {
+    let found = walk.step(entry)?;
+    match found {
         Some(_found) => add_found(threads, walk, entry),
         None => Ok(()),
     }

@@ -13,14 +13,14 @@ returns-in-Some-clause-gone c = λ known past.
     let f = view c.args.walk.now.recording.now in
     let e = c.args.entry.now in
     let after = c.step.new.self in
-    let step = subst (λ (x : Option Found). Finds f (moment_at f e known) x after.frame × IsPast after.history (known_after f e known)) c.in-Some.is (c.in_ok-step.ensures.steps known past) in
+    let step = subst (λ (x : Option Found). Finds f (moment_at f e known) x after.frame × IsPast after.history (known_after f e known)) c.in-Some.is (c.in_ok-found.ensures.steps known past) in
     gone c.add_found.result f (view after.recording.now) e known c.in-Some._found after.frame after.history c.args.threads.now c.add_found.new.threads
-    (ap view c.in_ok-step.ensures.recording) step (λ m found is then. c.add_found.ensures.added m found is then)
+    (ap view c.in_ok-found.ensures.recording) step (λ m found is then. c.add_found.ensures.added m found is then)
 
 pub returns-in-None-clause-gone : goal.returns-in-None-clause-gone
 returns-in-None-clause-gone c = λ known past.
     let f = view c.args.walk.now.recording.now in
     let e = c.args.entry.now in
     let after = c.step.new.self in
-    let step = subst (λ (x : Option Found). Finds f (moment_at f e known) x after.frame × IsPast after.history (known_after f e known)) c.in-None.is (c.in_ok-step.ensures.steps known past) in
+    let step = subst (λ (x : Option Found). Finds f (moment_at f e known) x after.frame × IsPast after.history (known_after f e known)) c.in-None.is (c.in_ok-found.ensures.steps known past) in
     gone_nowhere f e known after.frame after.history c.args.threads.now step

@@ -19,8 +19,8 @@ loop-index-preserved c =
       recording = c.in_ok-go_on.ensures.recording ∙ before.recording;
       ordered = c.in_ok-go_on.ensures.ordered before.ordered;
       threads =
-          moved f (view c.loop-index.walk.recording.now) c.args.entries.now c.loop-index.index _ before.threads.0 c.loop-index.threads c.go_on.new.threads c.go_on.new.walk.history
-          (ap view before.recording) (omega (arith, c.loop-index-test.true)) before.threads.2 (c.in_ok-go_on.ensures.gone before.threads.0 before.threads.1);
+          moved f (view c.loop-index.walk.recording.now) c.args.entries.now c.loop-index.index c.index-entries-index.result before.threads.0 c.loop-index.threads c.go_on.new.threads c.go_on.new.walk.history
+          (ap view before.recording) (omega (arith, c.loop-index-test.true)) c.index-entries-index.is before.threads.2 (c.in_ok-go_on.ensures.gone before.threads.0 before.threads.1);
     }
 
 pub returns : goal.returns
