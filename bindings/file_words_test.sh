@@ -258,6 +258,12 @@ check 1 "$work/output" events --header "$work/damaged"
 cp "$file" "$work/damaged"
 damage $((table + 7)) '\1'
 check 1 "$work/output" events --header "$work/damaged"
+{
+    echo '# hostname refused'
+    "${program[@]}" summary "$file" | tail -n +2
+} >"$work/output"
+check 1 "$work/output" summary "$work/damaged"
+json 1 "$work/damaged"
 check 0 "$examples/events.events" events "$work/damaged"
 
 # Folded stacks, which perf has counted: parts of them in any order add up to all, as awk adds them.
