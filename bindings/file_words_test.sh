@@ -175,6 +175,21 @@ header group "$examples/group.data" group.data -e '{task-clock,page-faults}:S' -
 header events "$examples/big-endian.data"
 check 0 "$examples/killed.events" events --header "$examples/killed.data"
 
+# The threads of a recording, each with when it began and ended and its last name, as `perf script --ns --show-task-events`
+# prints them; of the recording whose perf was killed by `od`, at the ends of its COMM, FORK and EXIT: threads_of NAME
+threads_of() {
+    case $1 in
+    events) printf '%s\n' '4573/4573 1759690213285 1759735887329 sh' '4583/4583 1759690872800 1759722838272 ls' \
+        '4586/4586 1759723103641 1759723685810 date' '4587/4587 1759724011248 1759735606455 sleep' ;;
+    pipe) printf '%s\n' '26136/26136 923281953818 923303328785 sh' '26138/26138 923282496734 923285080327 ls' \
+        '26139/26139 923285290482 923289050858 date' '26140/26140 923289208372 923303167128 sleep' ;;
+    group) echo '26193/26193 925571144128 925580644437 ls' ;;
+    machine) printf '%s\n' '0/0 924413952597 - swapper' '1/1 - - perf' '1/3 924370521185 - perf' '2/2 924413557785 924435171610 sh' \
+        '4/4 924414163567 924421253770 ls' '5/5 924421409916 924435007738 sleep' ;;
+    killed) printf '%s\n' '26196/26196 926720851052 - sh' '26198/26198 926721483138 926722108667 ls' '26199/26199 926722305958 - sleep' ;;
+    esac
+}
+
 # What is counted, as awk counts it in the lines of frames, which perf has read. A sample that contains no period has that of
 # its event, which is what `perf record` was given: summary NAME FILE HEADER PERIOD ..
 summary() {
@@ -189,12 +204,15 @@ summary() {
                 split("ATTR EVENT_TYPE TRACING_DATA BUILD_ID FINISHED_ROUND ID_INDEX AUXTRACE_INFO AUXTRACE AUXTRACE_ERROR THREAD_MAP CPU_MAP STAT_CONFIG STAT STAT_ROUND EVENT_UPDATE TIME_CONV FEATURE COMPRESSED FINISHED_INIT", own, " ")
             }
             function number(name, absent) { return match($0, " " name "=[0-9]+") ? substr($0, RSTART + length(name) + 2, RLENGTH - length(name) - 2) : absent }
-            NR == FNR { events++; number_of[events] = $1; sub(/ type=.*/, ""); sub(/^[0-9]+ /, ""); event[events] = $0; next }
+            FILENAME == ARGV[1] { threads++; who[threads] = $1; start[threads] = $2; end[threads] = $3; comm[threads] = $4; next }
+            FILENAME == ARGV[2] { events++; number_of[events] = $1; sub(/ type=.*/, ""); sub(/^[0-9]+ /, ""); event[events] = $0; next }
             { frames++; types[$4]++ }
             $7 == "refused" { refused++; if ($3 ~ /^[0-9]+$/) of_event[$3]++; next }
+            $4 == 4 { ended[number("pid", 0) "/" number("tid", 0)] }
             $4 == 2 || $4 == 13 { lost[$3] += number("lost", 0) }
             $4 == 9 {
                 samples[$3]++
+                taken[number("pid", 0) "/" number("tid", 0)]++
                 period[$3] += number("period", period_of[$3 + 1])
                 time = number("time", "-")
                 if (!($3 in first) || time < first[$3]) first[$3] = time
@@ -208,9 +226,52 @@ summary() {
                 }
                 for (ty = 0; ty < 128; ty++)
                     if (ty in types) printf "type %d frames=%d %s\n", ty, types[ty], ty < 64 ? names[ty] : own[ty - 63]
-            }' "$examples/$name.events" "${dump:-$examples/$name.dump}"
+                for (i = 1; i <= threads; i++) {
+                    w = who[i]
+                    printf "thread %s samples=%d start=%s end=%s %s\n", w, taken[w], start[i], w in ended ? end[i] : "-", comm[i]
+                }
+            }' <(threads_of "$name") "$examples/$name.events" "${dump:-$examples/$name.dump}"
     } >"$work/output"
     check "${status_of_it:-0}" "$work/output" summary "$file_of_it"
+    json "${status_of_it:-0}" "$file_of_it"
+}
+
+# The same numbers as JSON, which another reader of JSON prints as that text: json STATUS FILE
+json() {
+    if ! command -v python3 >/dev/null; then
+        echo "skipped: a summary as JSON: no python3"
+        return
+    fi
+    "${program[@]}" summary --json "$2" >"$work/found.json" 2>"$work/found.err"
+    found=$?
+    tried=$((tried + 1))
+    python3 - "$work/found.json" >"$work/found.out" <<'END'
+import json, sys
+text = open(sys.argv[1]).read()
+it = json.loads(text)
+assert text == json.dumps(it, separators=(",", ":"), sort_keys=True) + "\n"
+number = lambda n: "-" if n is None else n
+for name in "hostname", "os_release", "command_line":
+    shown = {"os_release": "os release", "command_line": "cmdline"}.get(name, name)
+    if isinstance(it[name], dict):
+        print("#", shown, *it[name])
+    elif it[name] is not None:
+        print("#", shown, ":", *([it[name]] if isinstance(it[name], str) else it[name]))
+print(f"file frames={it['frames']} refused={it['refused']}")
+for n, e in enumerate(it["events"]):
+    first, last = number(e["first"]), number(e["last"])
+    print(f"event {n} samples={e['samples']} period={e['period']} first={first} last={last} lost={e['lost']} refused={e['refused']} {e['name']}")
+for t in it["types"]:
+    print("type", "other frames=" + str(t["frames"]) if t["type"] is None else f"{t['type']} frames={t['frames']} {t['name']}")
+for t in it["threads"]:
+    print(f"thread {t['pid']}/{t['tid']} samples={t['samples']} start={number(t['start'])} end={number(t['end'])} {t['name']}")
+END
+    [ $found = "$1" ] && cmp -s "$work/output" "$work/found.out" || {
+        failed=$((failed + 1))
+        echo "FAILED: status $found, not $1, or another text, of the JSON of $2:"
+        diff "$work/output" "$work/found.out" | head -n 3
+        head -n 3 "$work/found.err"
+    }
 }
 stated() { printf '# hostname : vm\n# os release : 6.18.44-fc-v595\n# cmdline : /usr/bin/perf record -q -B -o'; printf ' %s' "$@"; printf '\n.'; }
 three='-e task-clock/period=2000000/ -e page-faults/period=7,call-graph=fp/ -e context-switches/period=1/ --namespaces -- sh -c '
@@ -245,6 +306,12 @@ check 1 "$work/output" events --header "$work/damaged"
 cp "$file" "$work/damaged"
 damage $((table + 7)) '\1'
 check 1 "$work/output" events --header "$work/damaged"
+{
+    echo '# hostname refused'
+    "${program[@]}" summary "$file" | tail -n +2
+} >"$work/output"
+check 1 "$work/output" summary "$work/damaged"
+json 1 "$work/damaged"
 check 0 "$examples/events.events" events "$work/damaged"
 
 # Folded stacks, which perf has counted: parts of them in any order add up to all, as awk adds them.
@@ -307,7 +374,7 @@ printf 'a 18446744073709551615\nb 1' >"$work/damaged"
 tells "$work/damaged: the counts have a sum of 2^64 or more: leave lines out" flame --folded "$work/damaged"
 
 # Other words, and help.
-for words in '' events dump summary other 'events one two' 'summary one two' 'summary --header one' 'dump one two' 'dump --order' 'dump --order size one' 'events --order time one' 'dump --header one' '--all' 'dump --all one' fold flame 'fold --merge' script 'script one two' 'script --all one' 'fold one two' 'flame --folded one two' 'flame --merge one' 'fold --merge --pid 1 one' 'flame --folded --event one two'; do
+for words in '' events dump summary other 'events one two' 'summary one two' 'summary --header one' 'summary --json' 'summary --json one two' 'dump --json one' 'dump one two' 'dump --order' 'dump --order size one' 'events --order time one' 'dump --header one' '--all' 'dump --all one' fold flame 'fold --merge' script 'script one two' 'script --all one' 'fold one two' 'flame --folded one two' 'flame --merge one' 'fold --merge --pid 1 one' 'flame --folded --event one two'; do
     # shellcheck disable=SC2086  # these are several words
     check 2 /dev/null $words
 done

@@ -24,6 +24,7 @@ RETURNS = {
     "perf_file": "the frames of a perf.data file",
     "perf_history": "names of threads, and what is mapped",
     "perf_walk": "frames in turn, and what is known then",
+    "perf_threads": "what each thread did",
     "perf_event_data": "the public names",
     "perf_event_c": "the calls for C, one archive",
     "perf_text": "text that is written backward",

@@ -1,5 +1,6 @@
 //! The commands over folded stacks.
 
+use crate::ending::report;
 use crate::filters::{Chosen, filter_words, refuse_times};
 use crate::{bytes_of, file_word};
 use clap::{Arg, ArgAction, ArgMatches, Command};
@@ -109,11 +110,7 @@ fn print_fold(rt: &HostRuntime, words: &ArgMatches<'_>, form: Form) -> io::Resul
     let how = choice(words, chosen.filter());
     let mut output = rt.stdout();
     let ended = write_fold(rt.alloc(), &bytes, how, form, &mut output);
-    match &ended {
-        Err(error) => eprintln!(rt; "perf_data: {path}: {error}")?,
-        Ok(Outcome::Stopped) => eprintln!(rt; "perf_data: the output cannot be written")?,
-        Ok(_) => {}
-    }
+    report(rt, path, &ended)?;
     Ok(perf_fold::status_after(&ended))
 }
 
@@ -125,7 +122,7 @@ fn print_sum(rt: &HostRuntime, words: &ArgMatches<'_>, form: Form) -> io::Result
     let texts = texts_of(rt, paths)?;
     let mut output = rt.stdout();
     let ended = write_sum(rt.alloc(), &texts, form, &mut output);
-    report(rt, paths, &ended)?;
+    report(rt, path_of(paths, &ended), &ended)?;
     Ok(status_after(&ended))
 }
 
@@ -138,19 +135,10 @@ fn texts_of(rt: &HostRuntime, paths: &[&str]) -> io::Result<Vec<Vec<u8>>> {
     Ok(texts)
 }
 
-// Prints on standard error why nothing, or not all, was printed.
-fn report(rt: &HostRuntime, paths: &[&str], ended: &Result<Outcome, TextError>) -> io::Result<()> {
-    match ended {
-        Err(error) => eprintln!(rt; "perf_data: {}: {error}", path_of(paths, error)),
-        Ok(Outcome::Stopped) => eprintln!(rt; "perf_data: the output cannot be written"),
-        Ok(_) => Ok(()),
-    }
-}
-
 // The file that is refused: the first, if it is all of them.
-fn path_of<'a>(paths: &[&'a str], error: &TextError) -> &'a str {
-    let index = match error {
-        TextError::BadLine { text, line: _ } => *text,
+fn path_of<'a>(paths: &[&'a str], ended: &Result<Outcome, TextError>) -> &'a str {
+    let index = match ended {
+        Err(TextError::BadLine { text, line: _ }) => *text,
         _ => 0,
     };
     match paths.get(index) {

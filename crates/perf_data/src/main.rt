@@ -5,7 +5,8 @@
 //! frame in the order of the file, with `--order time` by time: what the line of `perfrec` has, and
 //! after its number the offset of the frame in the file and its event. `perf_data summary FILE` prints
 //! what is counted: a line of all frames, one for each event, and one for each type of record, after lines
-//! of what perf states about the machine and the command. `perf_data script FILE` prints the samples by
+//! of what perf states about the machine and the command; with `--json` as one line of JSON.
+//! `perf_data script FILE` prints the samples by
 //! time, as `perf script` does.
 //!
 //! `perf_data fold FILE` prints the stacks of samples, and how many there are of each, with
@@ -22,14 +23,15 @@
 //! With 2 and 3 the reason is printed on standard error. `--help` prints the words.
 #![tactic(auto)]
 
+mod ending;
 mod filters;
 mod folding;
 mod scripting;
+mod summing;
 
+use crate::ending::report;
 use clap::{Arg, ArgAction, ArgMatches, Command};
 use perf_data_text::run::{Show, run, status_after};
-use perf_file::OpenError;
-use perf_lines::outcome::Outcome;
 use std::alloc::{AllocError, Global};
 use std::io::{IsTerminal, Read};
 use std::process::ExitCode;
@@ -84,9 +86,6 @@ fn program<'a>(alloc: Global) -> Result<Command<'a>, AllocError> {
         .about("Prints a line for each frame")
         .arg(order)?
         .arg(file_word(alloc))?;
-    let summary = Command::new(alloc, "summary")
-        .about("Prints what is counted of each event and of each type of record")
-        .arg(file_word(alloc))?;
     Command::new(alloc, "perf_data")
         .about("Prints what is inside a file of `perf record`.")
         .after_help(STATUSES)
@@ -94,7 +93,7 @@ fn program<'a>(alloc: Global) -> Result<Command<'a>, AllocError> {
         .disable_help_subcommand(true)
         .subcommand(events)?
         .subcommand(dump)?
-        .subcommand(summary)?
+        .subcommand(summing::summary_words(alloc)?)?
         .subcommand(scripting::script_words(alloc)?)?
         .subcommand(folding::fold_words(alloc)?)?
         .subcommand(folding::flame_words(alloc)?)
@@ -151,7 +150,7 @@ fn show_file(rt: &HostRuntime, command: &str, words: &ArgMatches<'_>) -> io::Res
     note_progress(rt, path, bytes.len())?;
     let mut output = rt.stdout();
     let ended = if command == "summary" {
-        perf_summary::run::run(rt.alloc(), &bytes, &mut output)
+        summing::sum(rt.alloc(), &bytes, words, &mut output)
     } else {
         run(rt.alloc(), &bytes, &mut output, shown(command, words))
     };
@@ -179,13 +178,4 @@ pub(crate) fn note_progress(rt: &HostRuntime, path: &str, len: usize) -> io::Res
     }
     let megabytes = len >> 20;
     eprintln!(rt; "perf_data: {path}: {megabytes} MiB are read, and their text is made")
-}
-
-// Prints on standard error why a run ended early.
-fn report(rt: &HostRuntime, path: &str, ended: &Result<Outcome, OpenError>) -> io::Result<()> {
-    match ended {
-        Err(error) => eprintln!(rt; "perf_data: {path}: {error}"),
-        Ok(Outcome::Stopped) => eprintln!(rt; "perf_data: the output cannot be written"),
-        Ok(_) => Ok(()),
-    }
 }

@@ -1,9 +1,9 @@
 //! The command `script`.
 
+use crate::ending::report;
 use crate::filters::{Chosen, filter_words, refuse_times};
 use crate::{bytes_of, file_word, note_progress};
 use clap::{ArgMatches, Command};
-use perf_lines::outcome::Outcome;
 use perf_script::{status_after, write_script};
 use std::alloc::{AllocError, Global};
 use std::io;
@@ -28,10 +28,6 @@ pub fn script(rt: &HostRuntime, words: &ArgMatches<'_>) -> io::Result<u8> {
     note_progress(rt, path, bytes.len())?;
     let mut output = rt.stdout();
     let ended = write_script(rt.alloc(), &bytes, chosen.filter(), &mut output);
-    match &ended {
-        Err(error) => eprintln!(rt; "perf_data: {path}: {error}")?,
-        Ok(Outcome::Stopped) => eprintln!(rt; "perf_data: the output cannot be written")?,
-        Ok(_) => {}
-    }
+    report(rt, path, &ended)?;
     Ok(status_after(&ended))
 }

@@ -2,6 +2,11 @@ pub mod Contents
 pub mod Counts
 pub mod Steps
 pub mod TypeNames
+pub mod Words
+pub mod Datas
+pub mod ThreadText
 pub mod SummaryText
 pub mod OwnLines
+pub mod SummaryJson
+pub mod OwnData
 pub mod Shown

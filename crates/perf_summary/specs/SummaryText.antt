@@ -1,5 +1,5 @@
 -- The summary of a file as lines of text.
-use Rattle.std.specs.Prelude.{ℕ, zero, suc, ◌==◌, Bool, ◌||◌, not, List, [], ◌++◌, codes, decimal, is_err, length, count_by, Option, Some, None, if◌then◌else◌}
+use Rattle.std.specs.Prelude.{ℕ, zero, suc, ◌==◌, Bool, ◌||◌, not, List, [], ◌++◌, codes, decimal, is_err, length, count_by, if◌then◌else◌}
 use Rattle.std.specs.List.{flat_map, enumerate_from}
 use Rattle.perf_base.specs.declared.endian.Dynamic.{Dynamic}
 use Rattle.perf_file.specs.FeatureTexts.{text_of, command_line_of}
@@ -8,7 +8,10 @@ use Rattle.perf_file.specs.Opened.{File, FileEvent}
 use Rattle.perf_data_text.specs.HeaderText.{feature_lines, text_line, words_line}
 use Rattle.perf_summary.specs.Contents.{all_contents}
 use Rattle.perf_summary.specs.Counts.{is_refused, event_count, of_event, type_count, other_count}
+use Rattle.perf_summary.specs.ThreadText.{threads_text}
 use Rattle.perf_summary.specs.TypeNames.{type_name}
+use Rattle.perf_summary.specs.Words.{time_text}
+use Rattle.perf_threads.specs.declared.threads.Thread.{Thread}
 use Rattle.perf_summary.specs.declared.contents.Contents.{Contents}
 use Rattle.perf_summary.specs.declared.counts.EventCount.{EventCount}
 
@@ -33,11 +36,6 @@ is_machine_refused order bytes =
 abbrev pub frames_line : (frames refused : ℕ) → List ℕ
 frames_line frames refused =
     codes "file frames=" ++ (decimal frames ++ (codes " refused=" ++ (decimal refused ++ codes "\n")))
-
--- a time, `-` if it is not known
-abbrev pub time_text : Option ℕ → List ℕ
-time_text (Some t) = decimal t
-time_text None = codes "-"
 
 -- the number of an event, and the counts of its samples
 abbrev pub samples_words : ℕ → EventCount → List ℕ
@@ -84,9 +82,10 @@ counts_text naming events xs =
     ++ type_lines (λ ty. type_count ty xs) 128
     ++ other_line (other_count xs)
 
--- the summary of a file with these bytes, whose events have these names
-abbrev pub summary_text : File → (bytes : List ℕ) → (naming : ℕ → FileEvent → Name) → List ℕ
-summary_text f bytes naming = machine_text f.order bytes ++ counts_text naming f.events (all_contents f)
+-- the summary of a file with these bytes, whose events have these names, and with these threads
+abbrev pub summary_text : File → (bytes : List ℕ) → (naming : ℕ → FileEvent → Name) → List ((ℕ × ℕ) × Thread) → List ℕ
+summary_text f bytes naming threads =
+    machine_text f.order bytes ++ counts_text naming f.events (all_contents f) ++ threads_text threads
 
 -- whether a frame or a feature in it is refused
 abbrev pub is_any_refused : File → (bytes : List ℕ) → Bool

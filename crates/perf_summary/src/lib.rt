@@ -4,6 +4,8 @@
 mod contents;
 pub mod counting;
 pub mod counts;
+mod json;
 pub mod run;
 mod text;
+mod threads;
 mod type_names;

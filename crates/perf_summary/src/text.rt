@@ -1,11 +1,12 @@
 //! The summary of a file as lines of text.
 
-ghost use Rattle.std.specs.Prelude.{◌≡◌, ◌<◌, ◌++◌, ◌||◌, ℕ, Some, not, IfOk, OnOk, length, slice_index_or, string_bytes};
+ghost use Rattle.std.specs.Prelude.{◌≡◌, ◌<◌, ◌++◌, ◌||◌, ℕ, not, IfOk, OnOk, length, slice_index_or, string_bytes};
 ghost use Rattle.perf_file.specs.Names.{Name, name_view, name_text};
 ghost use Rattle.perf_file.specs.Opened.{FileEvent};
 ghost use Rattle.perf_file.specs.Pieces.{pieces_of};
 ghost use Rattle.perf_file.specs.Views.{view};
 ghost use Rattle.perf_data_text.specs.OwnNames.{AreNamedBy};
+ghost use Rattle.perf_threads.specs.Threads.{plain_threads};
 ghost use Rattle.perf_summary.specs.Counts.{AreCounts};
 ghost use Rattle.perf_summary.specs.OwnLines as own;
 ghost use Rattle.perf_summary.specs.Steps.{no_count};
@@ -13,21 +14,25 @@ ghost use Rattle.perf_summary.specs.SummaryText as texts;
 
 use crate::counting::counts_of;
 use crate::counts::{Counts, EventCount};
+use crate::threads::{Time, push_threads};
 use crate::type_names::type_name;
 use perf_data_text::header::{push_command_line, push_text};
 use perf_file::{Event, Recording};
+use perf_threads::{Thread, ThreadId};
 use std::alloc::{AllocError, Global};
-use std::fmt;
+use std::collections::BTreeMap;
 
-/// The summary of a file as lines of text: the machine and the command, all frames, each event, and each
-/// type that a frame has; and whether a frame or a feature in it is refused.
+/// The summary of a file with these threads as lines of text: the machine and the command, all frames, each
+/// event, each type that a frame has, and each thread; and whether a frame or a feature in it is refused.
 pub fn text_of_summary(
     alloc: Global,
     recording: &Recording<'_>,
+    threads: &BTreeMap<ThreadId, Thread<'_>>,
 ) -> Result<(String, bool), AllocError>
     ensures text { (naming : ℕ → FileEvent → Name) → AreNamedBy recording.now naming →
         IfOk result (λ made. string_bytes made.0
-        ≡ texts.summary_text (view recording.now) recording.now.bytes.now naming) }
+        ≡ texts.summary_text (view recording.now) recording.now.bytes.now naming
+        (plain_threads threads.now.entries)) }
     ensures refused { IfOk result (λ made. made.1
         ≡ texts.is_any_refused (view recording.now) recording.now.bytes.now) }
 {
@@ -35,6 +40,7 @@ pub fn text_of_summary(
     let mut text = String::new(alloc);
     let is_refused = push_machine(&mut text, recording)?;
     push_counts(&mut text, recording.events(), &counts)?;
+    push_threads(&mut text, threads)?;
     Ok((text, is_refused || counts.refused != 0))
 }
 
@@ -92,26 +98,11 @@ fn push_events(
 }
 
 // The counts at an index.
-fn count_at(counts: &[EventCount], index: usize) -> EventCount
+pub(crate) fn count_at(counts: &[EventCount], index: usize) -> EventCount
     requires { index < length counts.now }
     ensures { result ≡ slice_index_or counts.now index no_count }
 {
     counts[index]
-}
-
-// A time, which may not be known.
-#[derive(Copy, Clone)]
-struct Time(Option<u64>);
-
-impl fmt::Display for Time {
-    ghost output = { λ t. Some (texts.time_text t.0) };
-
-    fn fmt<W: fmt::Write>(&self, f: &mut fmt::Formatter<W>) -> fmt::Result {
-        match self.0 {
-            Some(time) => write!(f, "{time}"),
-            None => f.write_str("-"),
-        }
-    }
 }
 
 // Appends the line of an event.

@@ -1,0 +1,44 @@
+-- What each thread did, as a line of text and as JSON.
+use Rattle.std.specs.Prelude.{ℕ, List, [], ◌∷◌, ◌++◌, codes, decimal, map}
+use Rattle.std.specs.List.{flat_map}
+use Rattle.serde_json.specs.Data.{Data, string, object, member, no_members}
+use Rattle.perf_data_text.specs.HeaderText.{printed}
+use Rattle.perf_history.specs.declared.names.Name.{Name}
+use Rattle.perf_history.specs.declared.names.Name.TheVariants.{Given, Number, Swapper}
+use Rattle.perf_threads.specs.declared.threads.Thread.{Thread}
+use Rattle.perf_summary.specs.Datas.{count_data, number_data}
+use Rattle.perf_summary.specs.Words.{time_text}
+
+-- the name of a thread as it is printed; without one a colon and its number
+abbrev pub thread_name : Name → List ℕ
+thread_name (Given name) = printed name.now
+thread_name (Number tid) = codes ":" ++ decimal tid
+thread_name Swapper = codes "swapper"
+
+-- the line of a thread: its ids, its samples, when it began and ended, and its name
+abbrev pub thread_line : (ℕ × ℕ) × Thread → List ℕ
+thread_line t =
+    codes "thread " ++ decimal t.0.0 ++ codes "/" ++ decimal t.0.1
+    ++ codes " samples=" ++ decimal t.1.samples
+    ++ codes " start=" ++ time_text t.1.start
+    ++ codes " end=" ++ time_text t.1.end
+    ++ codes " " ++ thread_name t.1.name ++ codes "\n"
+
+-- those of threads
+abbrev pub threads_text : List ((ℕ × ℕ) × Thread) → List ℕ
+threads_text threads = flat_map thread_line threads
+
+-- the same as an object
+abbrev pub thread_data : (ℕ × ℕ) × Thread → Data
+thread_data t = object
+    (member (codes "end") (number_data t.1.end)
+    (member (codes "name") (string (thread_name t.1.name))
+    (member (codes "pid") (count_data t.0.0)
+    (member (codes "samples") (count_data t.1.samples)
+    (member (codes "start") (number_data t.1.start)
+    (member (codes "tid") (count_data t.0.1)
+    no_members))))))
+
+-- those of threads
+abbrev pub threads_data : List ((ℕ × ℕ) × Thread) → List Data
+threads_data threads = map thread_data threads

@@ -1,0 +1,5 @@
+pub mod Found
+pub mod Growing
+pub mod InTurn
+pub mod Same
+pub mod Subjects

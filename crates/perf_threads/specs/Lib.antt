@@ -1,0 +1,4 @@
+pub mod Subjects
+pub mod Facts
+pub mod Threads
+pub mod Steps
