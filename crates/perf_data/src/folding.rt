@@ -2,7 +2,7 @@
 
 use crate::ending::report;
 use crate::filters::{Chosen, filter_words, refuse_times};
-use crate::{bytes_of, file_word};
+use crate::{bytes_of, file_word, note_progress};
 use clap::{Arg, ArgAction, ArgMatches, Command};
 use perf_fold::{Choice, Weight, write_fold};
 use perf_folded::{Form, TextError, status_after, write_sum};
@@ -107,6 +107,7 @@ fn print_fold(rt: &HostRuntime, words: &ArgMatches<'_>, form: Form) -> io::Resul
         return refuse_times(rt);
     };
     let bytes = bytes_of(rt, path)?;
+    note_progress(rt, path, bytes.len())?;
     let how = choice(words, chosen.filter());
     let mut output = rt.stdout();
     let ended = write_fold(rt.alloc(), &bytes, how, form, &mut output);
