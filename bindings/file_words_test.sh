@@ -170,6 +170,19 @@ header events "$file" events.data -e task-clock/period=2000000/ -e page-faults/p
     --namespaces -- sh -c 'ls / >/dev/null\x0a        date > /dev/null\x0a        sleep 0.01 & wait'
 header pipe "$examples/pipe.data" - -e task-clock/period=2000000/ -e page-faults/period=7,call-graph=fp/ -e context-switches/period=1/ \
     --namespaces -- sh -c 'ls / >/dev/null\x0a        date > /dev/null\x0a        sleep 0.01 & wait'
+# The build ids that perf writes to a pipe, as it lists them itself, in any order.
+if command -v perf >/dev/null && perf inject -b -o - <"$examples/pipe.data" >"$work/built" 2>/dev/null &&
+    perf buildid-list -i - <"$work/built" 2>/dev/null | grep '^[0-9a-f]' | sort >"$work/output" && [ -s "$work/output" ]; then
+    "${program[@]}" events --header "$work/built" | sed -n 's/^# build id : //p' | sort >"$work/found.out"
+    cmp -s "$work/output" "$work/found.out" || {
+        failed=$((failed + 1))
+        echo "FAILED: the build ids of a pipe"
+        diff "$work/output" "$work/found.out" | head -n 3
+    }
+    tried=$((tried + 1))
+else
+    echo "skipped: build ids of a pipe: no perf that writes them"
+fi
 header machine "$examples/machine.data" machine.data -a -e cpu-clock/freq=1000/ -- sh -c 'ls / > /dev/null\x0a        sleep 0.01'
 header group "$examples/group.data" group.data -e '{task-clock,page-faults}:S' -c 250000 -- ls -l /usr/bin
 header events "$examples/big-endian.data"
