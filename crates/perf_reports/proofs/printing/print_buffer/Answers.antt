@@ -1,7 +1,7 @@
 use Rattle.std.proofs.Common.{◌≡◌, List, ℕ, ap, sym, subst, refl, ◌∙◌, drop}
 use Rattle.std.specs.Prelude.{IsTrue}
 use Rattle.perf_base.specs.Order.{little}
-use Rattle.perf_parser.specs.ReaderState.{buffer_of, config_of, state_of}
+use Rattle.perf_parser.specs.ReaderState.{buffer_of, state_of}
 use Rattle.perf_reader.specs.ReaderState.{ReaderState}
 use Rattle.perf_reader.proofs.Calls.{keeps_none}
 use Rattle.perf_reports.specs.Counting.{attribute_in}

@@ -1,7 +1,5 @@
-use Rattle.std.proofs.Common.{◌≡◌, ℕ, ◌+◌, Bool, true, false, ap, refl, subst, sym, ◌∙◌, if◌then◌else◌}
-use Rattle.perf_base.specs.Configuration.{Configuration}
+use Rattle.std.proofs.Common.{◌≡◌, ◌+◌, Bool, true, false, ap, refl, subst, ◌∙◌, if◌then◌else◌}
 use Rattle.perf_base.specs.Configured.{configuration_of, endian_of}
-use Rattle.perf_base.specs.Order.{Order}
 use Rattle.perf_parser.specs.ReaderState.{state_of}
 use Rattle.perf_parser.specs.declared.runs.RunEnd.{RunEnd}
 use Rattle.perf_parser.specs.declared.runs.RunEnd.TheVariants as end
