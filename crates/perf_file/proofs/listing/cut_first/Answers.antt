@@ -1,7 +1,9 @@
-use Rattle.std.proofs.Common.{◌≡◌, ℕ, List, ◌∷◌, sym, ◌∙◌, ap}
+use Rattle.std.proofs.Common.{◌≡◌, ℕ, ◌≤◌, ◌<◌, List, [], ◌∷◌, length, inl, inr, sym, ◌∙◌, ap}
+use Rattle.std.proofs.lemmas.Bool.{cases_lt}
 use Rattle.perf_base.specs.Dynamic.{order_of}
 use Rattle.perf_base.specs.Order.{Order}
 use Rattle.perf_file.specs.Views.{view}
+use Rattle.perf_records.proofs.FrameList.{some_sight}
 use Rattle.perf_records.specs.FrameList.{sights}
 use Rattle.perf_records.specs.Sights.{sight_of}
 use Rattle.perf_file.specs.Pieces.{drop_most, take_most, payload_length, size_of, header_seen}
@@ -24,3 +26,15 @@ returns c =
     let done : c.split_most-2.result.1.now ≡ drop_most (payload_length o found) behind = c.split_most-2.ensures.back ∙ ap (λ n. drop_most n behind) c.payload_length.ensures in
     let piece = piece_is f c.place_in.result c.owner_of_found.result bytes behind c.split_most-2.result.0.now c.split_most-2.result.1.now found c.place_in.ensures c.owner_of_found.ensures first.1 rest paid done in
     (first.0, piece.0, piece.1)
+
+few : (o : Order) (bytes : List ℕ) → sights o bytes ≡ [] → length bytes < 8
+few o bytes none = elim (cases_lt (length bytes) 8) [ inl lt ↦ lt | inr le ↦ absurd (some_sight o bytes le none) ]
+
+pub returns-in_err-frame : goal.returns-in_err-frame
+returns-in_err-frame c =
+    let o : Order = order_of c.args.recording.now.order in
+    let bytes : List ℕ = c.args.bytes.now in
+    let order : order_of c.frames-all.result.order ≡ o = ap order_of c.frames-all.ensures.order in
+    let none : sights o bytes ≡ [] =
+    ap (λ q. sights q bytes) (sym order) ∙ ap (sights (order_of c.frames-all.result.order)) (sym c.frames-all.ensures.left) ∙ c.in_err-frame.ensures.steps.0 in
+    rw c.from_residual.ensures (few o bytes none)
