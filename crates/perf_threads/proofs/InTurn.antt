@@ -1,11 +1,10 @@
 -- The threads of the frames of entries, one entry after another.
-use Rattle.std.proofs.Common.{◌≡◌, ℕ, suc, ◌+◌, ◌%◌, ◌^◌, ◌<◌, ◌≤◌, Bool, true, false, cond, List, [], ◌∷◌, ◌++◌, length, drop, map, get_or, refl, sym, ◌∙◌, ap, subst, drop-cons, append-nil, append_assoc, arith}
+use Rattle.std.proofs.Common.{◌≡◌, ℕ, suc, ◌+◌, ◌%◌, ◌^◌, ◌<◌, ◌≤◌, Bool, true, false, cond, List, [], ◌∷◌, ◌++◌, length, drop, get_or, refl, sym, ◌∙◌, ap, subst, drop-cons, append-nil, append_assoc, arith}
 use Rattle.std.specs.Prelude.{Option, Some, None, option_map, count_by}
-use Rattle.std.specs.BTreeMap.{BTreeMap, get, IsEmpty, IsOrdered, is_at}
+use Rattle.std.specs.BTreeMap.{BTreeMap, IsEmpty, IsOrdered, is_at}
 use Rattle.std.specs.List.{cons_option, filter}
 use Rattle.std.specs.List.Sorted.{IsStrictlySortedBy}
 use Rattle.std.specs.Map.{keys_of, lookup}
-use Rattle.std.proofs.lemmas.List.{drop_all}
 use Rattle.std.proofs.lemmas.List.Sums.{count_by-le-length}
 use Rattle.perf_file.specs.Opened.{File}
 use Rattle.perf_file.specs.declared.entries.Entry.{Entry}

@@ -1,4 +1,4 @@
-use Rattle.std.proofs.Common.{[], ◌<◌, ◌^◌, length, ap, ◌∙◌, arith}
+use Rattle.std.proofs.Common.{[], ap, ◌∙◌, arith}
 use Rattle.std.proofs.lemmas.List.{drop_all}
 use Rattle.perf_file.specs.Views.{view}
 use Rattle.perf_threads.proofs.InTurn.{start, moved, all_threads}
