@@ -28,7 +28,7 @@ const NO_FEATURE = 20;
 const SHORT_FEATURE = "the feature is damaged: copy the file again, or record again";
 
 /** What the page reads of a recording besides: the name of a member. */
-export const FRONT = Symbol("front");
+export const FRONT = Symbol.for("perf-event-data: front");
 
 /** Why a file or a feature is refused, and what to do. */
 export class RefusedFile extends RangeError {

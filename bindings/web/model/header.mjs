@@ -3,7 +3,6 @@
 // The library finds the features; one that it refuses, as it ends beyond the file, is left out.
 
 import { viewOf } from "../../js/config.mjs";
-import { RefusedFile } from "../../js/file.mjs";
 import { textOf } from "./text.mjs";
 
 const TEXTS = { hostname: 3, osRelease: 4, perfVersion: 5, architecture: 6, processor: 8 };
@@ -71,7 +70,7 @@ function featureOf(file, number) {
     try {
         return file.feature(number);
     } catch (error) {
-        if (error instanceof RefusedFile) {
+        if (error instanceof RangeError) {
             return undefined;
         }
         throw error;

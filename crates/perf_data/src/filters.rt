@@ -27,11 +27,16 @@ pub fn filter_words<'a>(alloc: Global, command: Command<'a>) -> Result<Command<'
         .long("time")
         .value_name("FROM,TO")
         .help("Only samples from one time to another, in seconds; either may be absent");
-    let mut command = command;
-    for word in [event, pid, comm, time] {
-        command = command.arg(word.conflicts_with("merge")?.conflicts_with("folded")?)?;
-    }
-    Ok(command)
+    command
+        .arg(of_recordings(event)?)?
+        .arg(of_recordings(pid)?)?
+        .arg(of_recordings(comm)?)?
+        .arg(of_recordings(time)?)
+}
+
+// A word that makes no sense of lines of stacks.
+fn of_recordings<'a>(word: Arg<'a>) -> Result<Arg<'a>, AllocError> {
+    word.conflicts_with("merge")?.conflicts_with("folded")
 }
 
 /// What the words choose.

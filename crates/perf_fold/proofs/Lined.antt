@@ -1,9 +1,6 @@
 -- The lines of the bytes of a file.
-use Rattle.std.proofs.Common.{◌≡◌, ℕ, ◌<◌, ◌||◌, Bool, true, false, List, [], ◌∷◌, length, get_or, refl, sym, ◌∙◌, ap, subst}
-use Rattle.std.specs.Prelude.{Option, Ok, Err, string_bytes}
-use Rattle.std.specs.Global.{Global}
-use Rattle.std.specs.List.{list_any}
-use Rattle.std.specs.declared.string.String.{String}
+use Rattle.std.proofs.Common.{◌≡◌, ℕ, ◌<◌, true, false, List, length, get_or, sym, ◌∙◌, ap, subst}
+use Rattle.std.specs.Prelude.{Option, Ok, Err}
 use Rattle.perf_folded.specs.Written.{WritesForm}
 use Rattle.perf_folded.specs.declared.error.TextError.{TextError}
 use Rattle.perf_folded.specs.declared.error.TextError.TheVariants as texts
@@ -15,9 +12,8 @@ use Rattle.perf_file.specs.Views.{view}
 use Rattle.perf_file.specs.declared.events.Event.{Event}
 use Rattle.perf_file.specs.declared.opening.Recording.{Recording}
 use Rattle.perf_flame.specs.Lines.{Line}
-use Rattle.perf_walk.specs.Filters.{takes_any, takes_event}
-use Rattle.perf_walk.specs.declared.filtering.Filter.{Filter}
-use Rattle.perf_fold.specs.EventNames.{own_names, texts_of}
+use Rattle.perf_walk.specs.Filters.{takes_any}
+use Rattle.perf_fold.specs.EventNames.{own_names}
 use Rattle.perf_fold.specs.Folds.{IsFoldOf}
 use Rattle.perf_fold.specs.Written.{AreLinesOf, LacksEvent, WritesFold}
 use Rattle.perf_fold.specs.declared.error.FoldError.TheVariants as errors
@@ -37,14 +33,6 @@ lines_of how bytes r lines found named any fold =
 pub lacks_event : (how : Choice) (bytes : List ℕ) (r : Recording) → opened bytes ≡ Ok (view r) → IsNamed bytes r → takes_any how.filter (own_names r.events.items) ≡ false → LacksEvent how bytes
 lacks_event how bytes r found named none =
     (view r, found, sym (ap (takes_any how.filter) (named_by (event_name bytes (view r)) r.events.items named)) ∙ none)
-
--- whether a filter takes one of some texts
-abbrev pub any_here : Filter → List (String Global) → Bool
-any_here f names = list_any (λ name. takes_event f (string_bytes name)) names
-
-pub any_of : (f : Filter) (names : List (String Global)) → any_here f names ≡ takes_any f (texts_of names)
-any_of f [] = refl
-any_of f (name ∷ names) = ap (λ b. takes_event f (string_bytes name) || b) (any_of f names)
 
 -- there is no text of them, or memory ran out
 pub failed : (how : Choice) (form : Form) (bytes : List ℕ) (lines : List Line) (e : TextError) (old new : Option (List ℕ)) → AreLinesOf how bytes lines → WritesForm form lines (Err e) old new

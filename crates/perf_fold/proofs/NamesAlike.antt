@@ -1,9 +1,15 @@
 -- The names of events by a naming.
-use Rattle.std.proofs.Common.{◌≡◌, ℕ, suc, ◌+◌, ◌<◌, List, [], ◌∷◌, map, length, get_or, refl, sym, ap, ◌∙◌, add-zero, zero-add, arith}
+use Rattle.std.proofs.Common.{◌≡◌, ℕ, suc, ◌+◌, ◌<◌, ◌||◌, Bool, List, [], ◌∷◌, map, length, get_or, refl, sym, ap, ◌∙◌, add-zero, zero-add, arith}
+use Rattle.std.specs.Prelude.{string_bytes}
+use Rattle.std.specs.Global.{Global}
+use Rattle.std.specs.List.{list_any}
+use Rattle.std.specs.declared.string.String.{String}
 use Rattle.perf_file.specs.Names.{Name, name_view, name_text}
 use Rattle.perf_file.specs.Opened.{FileEvent, event_view}
 use Rattle.perf_file.specs.declared.events.Event.{Event}
-use Rattle.perf_fold.specs.EventNames.{own_name, own_names, names_by}
+use Rattle.perf_walk.specs.Filters.{takes_any, takes_event}
+use Rattle.perf_walk.specs.declared.filtering.Filter.{Filter}
+use Rattle.perf_fold.specs.EventNames.{own_name, own_names, names_by, texts_of}
 
 pub named_alike : (naming : ℕ → FileEvent → Name) (first : ℕ) (events : List Event) → ((n : ℕ) (d : Event) → n < length events → name_view (get_or events n d).name ≡ naming (first + n) (event_view (get_or events n d)))
     → own_names events ≡ names_by naming first (map event_view events)
@@ -21,3 +27,11 @@ pub named_by : (naming : ℕ → FileEvent → Name) (events : List Event) → (
     → own_names events ≡ names_by naming 0 (map event_view events)
 named_by naming events named =
     named_alike naming 0 events (λ n d lt. named n d lt ∙ ap (λ k. naming k (event_view (get_or events n d))) (sym (zero-add n)))
+
+-- whether a filter takes one of some texts
+abbrev pub any_here : Filter → List (String Global) → Bool
+any_here f names = list_any (λ name. takes_event f (string_bytes name)) names
+
+pub any_of : (f : Filter) (names : List (String Global)) → any_here f names ≡ takes_any f (texts_of names)
+any_of f [] = refl
+any_of f (name ∷ names) = ap (λ b. takes_event f (string_bytes name) || b) (any_of f names)

@@ -28,16 +28,20 @@ thread_line t =
 abbrev pub threads_text : List ((ℕ × ℕ) × Thread) → List ℕ
 threads_text threads = flat_map thread_line threads
 
--- the same as an object
-abbrev pub thread_data : (ℕ × ℕ) × Thread → Data
-thread_data t = object
-    (member (codes "end") (number_data t.1.end)
-    (member (codes "name") (string (thread_name t.1.name))
-    (member (codes "pid") (count_data t.0.0)
-    (member (codes "samples") (count_data t.1.samples)
-    (member (codes "start") (number_data t.1.start)
-    (member (codes "tid") (count_data t.0.1)
+-- the same as an object, with a name
+abbrev pub named_data : ℕ × ℕ → Thread → (name : List ℕ) → Data
+named_data who t name = object
+    (member (codes "end") (number_data t.end)
+    (member (codes "name") (string name)
+    (member (codes "pid") (count_data who.0)
+    (member (codes "samples") (count_data t.samples)
+    (member (codes "start") (number_data t.start)
+    (member (codes "tid") (count_data who.1)
     no_members))))))
+
+-- the same
+abbrev pub thread_data : (ℕ × ℕ) × Thread → Data
+thread_data t = named_data t.0 t.1 (thread_name t.1.name)
 
 -- those of threads
 abbrev pub threads_data : List ((ℕ × ℕ) × Thread) → List Data

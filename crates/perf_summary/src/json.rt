@@ -71,12 +71,42 @@ fn summary_value(
     let os_release = text_value(alloc, recording.os_release())?;
     let threads = thread_values(alloc, threads)?;
     let types = type_values(alloc, &counts.types, counts.other_types)?;
+    let machine = Machine {
+        command_line,
+        hostname,
+        os_release,
+    };
+    parts_value(alloc, machine, events, counts, threads, types)
+}
+
+// The machine and the command.
+#[derive(Drop)]
+struct Machine {
+    command_line: Value,
+    hostname: Value,
+    os_release: Value,
+}
+
+// The object of these parts.
+fn parts_value(
+    alloc: Global,
+    machine: Machine,
+    events: Vec<Value>,
+    counts: &Counts,
+    threads: Vec<Value>,
+    types: Vec<Value>,
+) -> Result<Value, AllocError>
+    ensures { IfOk result (λ value. data_of value ≡ jsons.parts_data
+        (data_of machine.command_line) (map data_of events.items) counts.now.frames
+        (data_of machine.hostname) (data_of machine.os_release) counts.now.refused
+        (map data_of threads.items) (map data_of types.items)) }
+{
     json!(in alloc; {
-        "command_line": command_line,
+        "command_line": machine.command_line,
         "events": events,
         "frames": counts.frames,
-        "hostname": hostname,
-        "os_release": os_release,
+        "hostname": machine.hostname,
+        "os_release": machine.os_release,
         "refused": counts.refused,
         "threads": threads,
         "types": types
@@ -161,6 +191,13 @@ fn event_value(alloc: Global, event: &Event<'_>, count: &EventCount) -> Result<V
         ≡ jsons.event_data count.now (name_text (name_view event.now.name))) }
 {
     let name = format!(in alloc; "{}", event.name())?;
+    counts_value(alloc, count, name.as_str())
+}
+
+// The counts of an event, and its name.
+fn counts_value(alloc: Global, count: &EventCount, name: &str) -> Result<Value, AllocError>
+    ensures { IfOk result (λ value. data_of value ≡ jsons.event_data count.now name.now) }
+{
     json!(in alloc; {
         "first": count.first,
         "last": count.last,

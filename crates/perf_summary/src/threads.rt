@@ -93,8 +93,20 @@ pub(crate) fn thread_values(
 fn thread_value(alloc: Global, who: ThreadId, thread: &Thread<'_>) -> Result<Value, AllocError>
     ensures { IfOk result (λ value. data_of value ≡ texts.thread_data (who, thread.now)) }
 {
-    let (pid, tid) = who;
     let name = format!(in alloc; "{}", ThreadName(thread.name))?;
+    named_value(alloc, who, thread, name.as_str())
+}
+
+// The same with this name.
+fn named_value(
+    alloc: Global,
+    who: ThreadId,
+    thread: &Thread<'_>,
+    name: &str,
+) -> Result<Value, AllocError>
+    ensures { IfOk result (λ value. data_of value ≡ texts.named_data who thread.now name.now) }
+{
+    let (pid, tid) = who;
     json!(in alloc; {
         "end": thread.end,
         "name": name,

@@ -6,7 +6,7 @@ use Rattle.std.proofs.lemmas.List.{map-append}
 use Rattle.std.proofs.lemmas.Bool.{lt-ltb, ne_eqb}
 use Rattle.std.proofs.lemmas.List.Elements.{filter-append}
 use Rattle.std.proofs.lemmas.List.Sums.{sum_by-append}
-use Rattle.perf_threads.specs.Steps.{grown, or_none, no_thread, or_first, or_last, known}
+use Rattle.perf_threads.specs.Steps.{grown, or_none, or_first, or_last, known}
 use Rattle.perf_threads.specs.Threads.{is_same, of_thread, is_sample, is_exit, times_of, first_of, last_of, thread_by, thread_of}
 use Rattle.perf_threads.specs.declared.facts.Fact.{Fact}
 use Rattle.perf_threads.specs.declared.threads.Thread.{Thread}

@@ -1,11 +1,10 @@
 -- The threads of the frames of entries, one entry after another.
-use Rattle.std.proofs.Common.{◌≡◌, ℕ, suc, ◌+◌, ◌%◌, ◌^◌, ◌<◌, ◌≤◌, Bool, true, false, cond, List, [], ◌∷◌, ◌++◌, length, drop, map, get_or, refl, sym, ◌∙◌, ap, subst, drop-cons, append-nil, append_assoc, arith}
+use Rattle.std.proofs.Common.{◌≡◌, ℕ, suc, ◌+◌, ◌%◌, ◌^◌, ◌<◌, ◌≤◌, Bool, true, false, cond, List, [], ◌∷◌, ◌++◌, length, drop, get_or, refl, sym, ◌∙◌, ap, subst, drop-cons, append-nil, append_assoc, arith}
 use Rattle.std.specs.Prelude.{Option, Some, None, option_map, count_by}
-use Rattle.std.specs.BTreeMap.{BTreeMap, get, IsEmpty, IsOrdered, is_at}
+use Rattle.std.specs.BTreeMap.{BTreeMap, IsEmpty, IsOrdered, is_at}
 use Rattle.std.specs.List.{cons_option, filter}
 use Rattle.std.specs.List.Sorted.{IsStrictlySortedBy}
 use Rattle.std.specs.Map.{keys_of, lookup}
-use Rattle.std.proofs.lemmas.List.{drop_all}
 use Rattle.std.proofs.lemmas.List.Sums.{count_by-le-length}
 use Rattle.perf_file.specs.Opened.{File}
 use Rattle.perf_file.specs.declared.entries.Entry.{Entry}
@@ -51,13 +50,14 @@ there_if : (done : List Fact) (x : Option Fact) (rest : List Fact) → if_there 
 there_if done (Some x) rest = append_assoc done (x ∷ []) rest
 there_if done None rest = refl
 
-pub one_more : (f : File) (entries : List Entry) (i : ℕ) (e : Entry) (known : List Change) (old new : BTreeMap (ℕ × ℕ) Thread) → i < length entries → e ≡ get_or entries i e
-    → AreSoFar f entries (drop i entries) known old → AddsPlain (fact_at f e known) old new → AreSoFar f entries (drop (i + 1) entries) (known_after f e known) new
-one_more f entries i e known old new below is so adds =
+pub one_more : (f : File) (entries : List Entry) (i : ℕ) (d : Entry) (known : List Change) (old new : BTreeMap (ℕ × ℕ) Thread) → i < length entries
+    → AreSoFar f entries (drop i entries) known old → AddsPlain (fact_at f (get_or entries i d) known) old new
+    → AreSoFar f entries (drop (i + 1) entries) (known_after f (get_or entries i d) known) new
+one_more f entries i d known old new below so adds =
+    let e : Entry = get_or entries i d in
     let x : Option Fact = fact_at f e known in
     let next : suc i ≡ i + 1 = omega arith in
-    let split : drop i entries ≡ e ∷ drop (i + 1) entries =
-    drop-cons entries i e below ∙ ap (λ (d : Entry). d ∷ drop (suc i) entries) (sym is) ∙ ap (λ n. e ∷ drop n entries) next in
+    let split : drop i entries ≡ e ∷ drop (i + 1) entries = drop-cons entries i d below ∙ ap (λ n. e ∷ drop n entries) next in
     record {
       done = if_there so.done x;
       all =
@@ -67,14 +67,15 @@ one_more f entries i e known old new below is so adds =
     }
 
 -- the same of another view of the same file
-pub moved : (f g : File) (entries : List Entry) (i : ℕ) (e : Entry) (known : List Change) (old new : BTreeMap (ℕ × ℕ) Thread) (history : History) → g ≡ f → i < length entries → e ≡ get_or entries i e
-    → AreSoFar f entries (drop i entries) known old → IsPast history (known_after g e known) × AddsPlain (fact_at g e known) old new
+pub moved : (f g : File) (entries : List Entry) (i : ℕ) (d : Entry) (known : List Change) (old new : BTreeMap (ℕ × ℕ) Thread) (history : History) → g ≡ f → i < length entries
+    → AreSoFar f entries (drop i entries) known old → IsPast history (known_after g (get_or entries i d) known) × AddsPlain (fact_at g (get_or entries i d) known) old new
     → (next : List Change) × IsPast history next × AreSoFar f entries (drop (i + 1) entries) next new
-moved f g entries i e known old new history same below is so gone = (
-  known_after f e known,
-  subst (λ (x : File). IsPast history (known_after x e known)) same gone.0,
-  one_more f entries i e known old new below is so (subst (λ (x : File). AddsPlain (fact_at x e known) old new) same gone.1),
-)
+moved f g entries i d known old new history same below so gone =
+    let e : Entry = get_or entries i d in (
+      known_after f e known,
+      subst (λ (x : File). IsPast history (known_after x e known)) same gone.0,
+      one_more f entries i d known old new below so (subst (λ (x : File). AddsPlain (fact_at x e known) old new) same gone.1),
+    )
 
 -- ---- all
 

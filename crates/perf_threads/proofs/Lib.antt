@@ -2,4 +2,4 @@ pub mod Found
 pub mod Growing
 pub mod InTurn
 pub mod Same
-pub mod Subjects
+pub mod Stated

@@ -2,7 +2,7 @@ use Rattle.std.proofs.Common.{◌∙◌, List, ap}
 use Rattle.std.specs.Global.{Global}
 use Rattle.std.specs.declared.string.String.{String}
 use Rattle.perf_walk.specs.Filters.{takes_any}
-use Rattle.perf_fold.proofs.Lined.{any_here, any_of}
+use Rattle.perf_fold.proofs.NamesAlike.{any_here, any_of}
 use Rattle.perf_fold.proofs.names.has_event.Goals as goal
 
 pub returns : goal.returns

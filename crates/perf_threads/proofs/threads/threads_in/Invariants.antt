@@ -1,4 +1,4 @@
-use Rattle.std.proofs.Common.{◌≡◌, ℕ, ◌≤◌, ◌<◌, ◌^◌, List, length, drop}
+use Rattle.std.proofs.Common.{◌≡◌, List, drop}
 use Rattle.std.specs.BTreeMap.{IsOrdered}
 use Rattle.perf_file.specs.Views.{view}
 use Rattle.perf_history.specs.declared.changes.Change.{Change}

@@ -1,10 +1,9 @@
 -- The thread that a flat frame is about.
-use Rattle.std.proofs.Common.{◌≡◌, ℕ, List, get_or, refl, sym, ◌∙◌, ap, subst}
-use Rattle.std.specs.Prelude.{Option, Some, None, Result, Ok, Err}
+use Rattle.std.proofs.Common.{◌≡◌, ℕ, List, refl, sym, ◌∙◌, ap, subst}
+use Rattle.std.specs.Prelude.{Some, None, Result, Ok, Err}
 use Rattle.perf_base.specs.Attribute.{or_zero}
 use Rattle.perf_base.specs.Configuration.{Configuration, under_misc}
 use Rattle.perf_base.specs.Header.{header_of}
-use Rattle.perf_base.specs.Layout.{Parts, map_parts}
 use Rattle.perf_base.specs.Order.{Order}
 use Rattle.perf_base.specs.declared.error.ErrorKind.{ErrorKind}
 use Rattle.perf_flat.specs.Arrays.{filled}
@@ -12,7 +11,6 @@ use Rattle.perf_flat.specs.Flat.{IsFlat, read_type}
 use Rattle.perf_flat.specs.RecordNumbers.{numbers_of}
 use Rattle.perf_flat.specs.declared.frame.FlatFrame.{FlatFrame}
 use Rattle.perf_records.specs.Answers.{answer_of_frame}
-use Rattle.perf_records.specs.Bodies.{body}
 use Rattle.perf_records.specs.Records.{RecordValue}
 use Rattle.perf_records.specs.Records as records
 use Rattle.perf_sample_types.specs.Sample.{SampleValue, sample}
@@ -23,9 +21,7 @@ use Rattle.perf_types.specs.declared.numbers.Exit.{Exit}
 use Rattle.perf_walk.proofs.Stated.{of_type, flat_record}
 use Rattle.perf_walk.proofs.Values.{answer_value, kind_of, body_kind}
 use Rattle.perf_threads.specs.Subjects.{subject, subject_in, subject_if, subject_of, subject_at}
-use Rattle.perf_threads.specs.declared.subjects.Kind.{Kind}
 use Rattle.perf_threads.specs.declared.subjects.Kind.TheVariants as kind
-use Rattle.perf_threads.specs.declared.subjects.Subject.{Subject}
 
 same_sample : (pid tid : ℕ) (s : SampleValue) → pid ≡ or_zero (getters_of s).pid → tid ≡ or_zero (getters_of s).tid
     → Some (record { pid = pid; tid = tid; kind = kind.Sample }) ≡ subject_in (records.sample_is s)
