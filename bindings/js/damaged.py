@@ -7,6 +7,7 @@ it:
 A line of each copy is why it is refused, or how many events and frames there are, and a sum of the frames and features.
 """
 import hashlib
+import multiprocessing
 import sys
 from pathlib import Path
 
@@ -50,9 +51,12 @@ def damaged_copies(data):
 
 
 def main():
-    for name in "events", "pipe":
-        for data in damaged_copies((TOP / f"examples/{name}.data").read_bytes()):
-            print(text_of(data))
+    with multiprocessing.Pool() as pool:
+        for name in "events", "pipe":
+            copies = damaged_copies((TOP / f"examples/{name}.data").read_bytes())
+            for text in pool.imap(text_of, copies, 64):
+                print(text)
 
 
-main()
+if __name__ == "__main__":
+    main()

@@ -143,7 +143,7 @@ class Chromium(Browser):
         place = f"http://127.0.0.1:{self.port}/{self.session}{path}".rstrip("/")
         request = urllib.request.Request(place, data, {"Content-Type": "application/json"}, method=method)
         try:
-            with urllib.request.urlopen(request, timeout=60) as reply:
+            with urllib.request.urlopen(request, timeout=180) as reply:
                 return json.load(reply)["value"]
         except urllib.error.HTTPError as error:
             value = json.load(error)["value"]
@@ -193,7 +193,7 @@ class Firefox(Browser):
                  self.room.name]
         self.driver = subprocess.Popen(words, env={**os.environ, "HOME": self.room.name}, **QUIET)
         self.link = retry(lambda: socket.create_connection(("127.0.0.1", port), 2), "firefox-esr", 900)
-        self.link.settimeout(60)
+        self.link.settimeout(180)
         self.count = 0
         self.receive()
         self.call("NewSession", {"strictFileInteractability": False, "timeouts": TIMEOUTS})

@@ -678,6 +678,7 @@ def contrast(page):
     page.start()
     for scheme in ("light", "dark"):
         page.browser.prefer(scheme)
+        page.browser.wait("return matchMedia(`(prefers-color-scheme: ${arguments[0]})`).matches", scheme)
         grounds.append(page.browser.run("return getComputedStyle(document.body).backgroundColor"))
     page.browser.prefer(None)
     same(grounds, ["rgb(255, 255, 255)", "rgb(21, 24, 28)"], "grounds that follow the reader's choice")
