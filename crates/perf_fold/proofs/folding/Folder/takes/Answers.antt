@@ -16,6 +16,6 @@ pub returns-else-event : goal.returns-else-event
 returns-else-event c = λ m s is past sampled same.
     let own = c.args.self.now in
     let named = takes_event own.how.filter (get_or (texts_of own.names.items) m.event []) in
-    ap (λ b. b && c.takes-taken.result)
+    c.if-event.false ∙ ap (λ b. b && c.takes-taken.result)
     (sym c.if-event.false ∙ c.takes_event-event.ensures ∙ ap (λ e. takes_event own.how.filter (get_or (texts_of own.names.items) e [])) is.event)
     ∙ ap (λ b. named && b) (c.takes-taken.ensures (view c.args.walk.now.recording.now) m s c.args.found.now is past sampled same)
