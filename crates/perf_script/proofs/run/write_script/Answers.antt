@@ -27,9 +27,11 @@ returns g c =
     let any = sym (any_is f (choice_by w naming f.events) events chosen) ∙ sym c.any_counts.ensures ∙ c.if-not-any_counts.false in (
       f,
       c.in_ok-recording.ensures.exact,
-      any,
-      c.in_ok-text.refused,
-      c.deref.result.now,
-      subst (IsText w f naming c.in_ok-text.refused) (sym c.deref.ensures.value) (c.in_ok-text.ensures w naming chosen),
-      c.write_text.ensures,
+      (
+        any,
+        c.in_ok-text.refused,
+        c.deref.result.now,
+        subst (IsText w f naming c.in_ok-text.refused) (sym c.deref.ensures.value) (c.in_ok-text.ensures w naming chosen),
+        c.write_text.ensures,
+      ),
     )
