@@ -28,7 +28,8 @@ pub fn write_fold<W: Write>(
         (W.contents writer.old) (W.contents writer.new) }
 {
     let recording = Recording::open(alloc, bytes)?;
-    if !has_event(alloc, &recording, &how.filter)? {
+    let known = has_event(alloc, &recording, &how.filter)?;
+    if !known {
         return Err(FoldError::NoEvent);
     }
     let folded = fold(alloc, &recording, how)?;
