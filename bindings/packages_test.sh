@@ -218,21 +218,26 @@ check_page() {
     try "it has the usage of $program" sh -c '[ -s "$2" ] && ! grep -vxFf "$1" "$2"' sh "$work/text" "$work/usage"
 }
 
+# Prints the options that bash does not offer after a command of perf_data, or that its manual page, without marks, lacks:
+# lacking COMMAND PAGE PROGRAM
+lacking() {
+    offers perf_data "$1" -- | tr ' ' '\n' >"$work/offered"
+    "$3" "$1" --help | grep -oE -e '--[a-z][a-z-]*' | sort -u | grep -vx -e --help | while read -r option; do
+        grep -qx -e "$option" "$work/offered" && grep -qE -e "^\.B $option( |\$)" "$2" || echo "$option"
+    done
+}
+
 # The words of perf_data are those that its help has: check_words PAGE PROGRAM
 check_words() {
     if [ ! -x "$2" ]; then
         skip "the words of perf_data: it is not built"
         return
     fi
-    commands=$("$2" --help | sed -n '/^Commands:/,/^$/s/^  \([a-z]\{1,\}\) .*/\1/p')
-    prints "$(echo $commands) --help" "bash offers the commands of perf_data" offers perf_data ""
     sed 's/\\-/-/g; s/\\f[BIR]//g' "$1" >"$work/text"
-    for command in $commands; do
-        "$2" "$command" --help | grep -oE -e '--[a-z][a-z-]*' | grep -vx -e --help | sort -u >"$work/options"
-        offers perf_data "$command" -- | tr ' ' '\n' >"$work/offered"
-        try "bash offers the options of perf_data $command, which its manual page has" sh -c '
-            ! grep -vxFf "$1" "$3" && ! { sed "s/^/.B /" "$3" | while read -r word; do grep -qF -e "$word" "$2" || echo "$word"; done | grep .; }' \
-            sh "$work/offered" "$work/text" "$work/options"
+    listed=$("$2" --help | sed -n 's/^  \([a-z]\{3,\}\)  *[A-Z].*/\1/p')
+    prints "$(echo $listed) --help" "bash offers the commands that perf_data lists" offers perf_data ""
+    for command in $listed; do
+        prints "" "bash and the manual page have the options of perf_data $command" lacking "$command" "$work/text" "$2"
     done
 }
 
