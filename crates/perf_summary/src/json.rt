@@ -1,6 +1,6 @@
 //! The summary of a file as JSON.
 
-ghost use Rattle.std.specs.Prelude.{◌≡◌, ◌++◌, ℕ, [], IfOk, OnOk, length, map, string_bytes};
+ghost use Rattle.std.specs.Prelude.{◌≡◌, ◌++◌, ℕ, [], IfOk, OnOk, is_err, length, map, string_bytes};
 ghost use Rattle.serde_json.specs.View.{view as data_of};
 ghost use Rattle.perf_file.specs.FeatureTable.{seen};
 ghost use Rattle.perf_file.specs.FeatureTexts.{words_left};
@@ -42,16 +42,40 @@ pub fn json_of_summary(
     let value = summary_value(alloc, recording, &counts, threads)?;
     let mut text = value.to_string(alloc)?;
     text.push_str("\n")?;
-    Ok((text, is_refused(recording) || counts.refused != 0))
+    let is_refused = is_refused(recording);
+    Ok((text, is_refused || counts.refused != 0))
 }
 
-// Whether a feature cannot be read.
+// Whether one of the features cannot be read.
 fn is_refused(recording: &Recording<'_>) -> bool
     ensures { result ≡ is_machine_refused recording.now.order recording.now.bytes.now }
 {
-    recording.hostname().is_err()
-        || recording.os_release().is_err()
-        || recording.command_line().is_err()
+    let host = is_text_refused(recording.hostname());
+    let release = is_text_refused(recording.os_release());
+    let words = are_words_refused(recording.command_line());
+    host || release || words
+}
+
+// Whether a text cannot be read.
+fn is_text_refused(found: Result<Option<&[u8]>, BadFeature>) -> bool
+    ensures { result ≡ is_err (seen (λ b. b.now) found.entry) }
+{
+    match found {
+        Ok(Some(_)) => false,
+        Ok(None) => false,
+        Err(_) => true,
+    }
+}
+
+// Whether the words of the command cannot be read.
+fn are_words_refused(found: Result<Option<CommandLine<'_>>, BadFeature>) -> bool
+    ensures { result ≡ is_err (seen words_left found.entry) }
+{
+    match found {
+        Ok(Some(_)) => false,
+        Ok(None) => false,
+        Err(_) => true,
+    }
 }
 
 // The summary by its counts, and with these threads.
