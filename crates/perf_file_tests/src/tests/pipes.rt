@@ -259,7 +259,11 @@ fn builds_of(alloc: Global, place: usize, number: u64) -> Result<String, AllocEr
         words[index] = PIPE[index];
     }
     for index in 0..11 {
-        words[WORDS + index] = if index == place { number } else { BUILDS[index] };
+        words[WORDS + index] = if index == place {
+            number
+        } else {
+            BUILDS[index]
+        };
     }
     let bytes = little(alloc, &words)?;
     let mut text = String::new(alloc);
