@@ -8,6 +8,7 @@ ghost use Rattle.perf_file.specs.Forms as forms;
 use crate::feature_table::feature_in;
 use crate::noting::noted_feature;
 use crate::opening::Recording;
+use crate::piped::pipe_order;
 use std::fmt;
 
 /// A feature, by the number that perf gives it, `HEADER_*` of its `util/header.h`.
@@ -153,7 +154,7 @@ impl<'p> Recording<'p> {
     pub fn feature(&self, feature: Feature) -> Result<Option<&'p [u8]>, BadFeature>
         ensures { table.seen (λ b. b.now) result ≡ forms.feature_of self.now.bytes.now feature.0 }
     {
-        match self.pipe {
+        match pipe_order(self.bytes) {
             Some(order) => match noted_feature(order, &self.notes, u64::from(feature.0)) {
                 Some(bytes) => Ok(Some(bytes)),
                 None => Ok(None),

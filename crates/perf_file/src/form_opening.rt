@@ -48,7 +48,6 @@ pub(crate) fn open_file<'p>(alloc: Global, bytes: &'p [u8]) -> Result<Recording<
         ids,
         place,
         notes: Vec::new(alloc),
-        pipe: None,
     })
 }
 
@@ -82,6 +81,5 @@ pub(crate) fn open_pipe<'p>(
         ids,
         place,
         notes,
-        pipe: Some(order),
     })
 }

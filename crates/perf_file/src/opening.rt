@@ -8,7 +8,6 @@ ghost use Rattle.perf_file.specs.IdPlaces as places;
 ghost use Rattle.perf_file.specs.IdTables as tables;
 ghost use Rattle.perf_file.specs.NoteViews.{note_of};
 ghost use Rattle.perf_file.specs.Opened as opens;
-ghost use Rattle.perf_file.specs.Pipes as pipes;
 ghost use Rattle.perf_file.specs.declared.events.Event.{Event};
 ghost use Rattle.perf_file.specs.declared.ids.IdOfEvent.{IdOfEvent};
 
@@ -34,8 +33,6 @@ pub struct Recording<'p> {
     pub(crate) ids: Vec<IdOfEvent>,
     pub(crate) place: Option<IdPlace>,
     pub(crate) notes: Vec<Note<'p>>,
-    // The order of a pipe, none of a file.
-    pub(crate) pipe: Option<Dynamic>,
     ghost inside: { start + length frames.now < 2 ^ 64 },
     ghost rising: { IsNonDecreasingBy (λ (e : IdOfEvent). e.id) ids.items },
     ghost found: { (id : ℕ) → tables.event_of ids.items id ≡
@@ -44,7 +41,6 @@ pub struct Recording<'p> {
         places.first_place (opens.attributes_of (map opens.event_view events.items)) },
     ghost ordered: { All (λ (e : Event). endian_of e.config ≡ order) events.items },
     ghost noted: { map note_of notes.items ≡ forms.notes_of bytes.now },
-    ghost piped: { pipe ≡ pipes.pipe_order bytes.now },
 }
 
 impl<'p> Recording<'p> {
