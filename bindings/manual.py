@@ -74,7 +74,7 @@ class Program:
         commands = [name for name in re.findall(r'Command::new\(alloc, "(\w+)"\)', text) if name != self.name]
         self.places = [[*commands, "--help"]]
         for argument in text.split("Arg::new(")[1:]:
-            long, value, values, about = (re.search(form, argument.partition(";")[0]) for form in (
+            long, value, values, about = (re.search(form, argument.partition(";\n")[0]) for form in (
                 r'\.long\("(.*?)"\)', r'\.value_name\("(.*?)"\)', r"\.value_parser\(\[(.*?)\]", r'\.help\("(.*?)"\)'))
             if long:
                 words = re.findall(r'"(.*?)"', values[1] if values else "")
