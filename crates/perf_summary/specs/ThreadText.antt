@@ -15,14 +15,17 @@ thread_name (Given name) = printed name.now
 thread_name (Number tid) = codes ":" ++ decimal tid
 thread_name Swapper = codes "swapper"
 
--- the line of a thread: its ids, its samples, when it began and ended, and its name
+-- the ids of a thread, and its samples
+abbrev pub ids_words : ℕ × ℕ → (samples : ℕ) → List ℕ
+ids_words who samples = codes "thread " ++ decimal who.0 ++ codes "/" ++ decimal who.1 ++ codes " samples=" ++ decimal samples
+
+-- when it began and ended
+abbrev pub times_words : Thread → List ℕ
+times_words t = codes " start=" ++ time_text t.start ++ codes " end=" ++ time_text t.end
+
+-- its line: also its name
 abbrev pub thread_line : (ℕ × ℕ) × Thread → List ℕ
-thread_line t =
-    codes "thread " ++ decimal t.0.0 ++ codes "/" ++ decimal t.0.1
-    ++ codes " samples=" ++ decimal t.1.samples
-    ++ codes " start=" ++ time_text t.1.start
-    ++ codes " end=" ++ time_text t.1.end
-    ++ codes " " ++ thread_name t.1.name ++ codes "\n"
+thread_line t = ids_words t.0 t.1.samples ++ times_words t.1 ++ (codes " " ++ thread_name t.1.name ++ codes "\n")
 
 -- those of threads
 abbrev pub threads_text : List ((ℕ × ℕ) × Thread) → List ℕ

@@ -1,6 +1,6 @@
 //! The summary of a file as JSON.
 
-ghost use Rattle.std.specs.Prelude.{◌≡◌, ◌++◌, ℕ, [], IfOk, OnOk, is_err, length, map, string_bytes};
+ghost use Rattle.std.specs.Prelude.{◌≡◌, ◌++◌, ℕ, [], Some, IfOk, OnOk, is_err, length, map, string_bytes};
 ghost use Rattle.serde_json.specs.View.{view as data_of};
 ghost use Rattle.perf_file.specs.FeatureTable.{seen};
 ghost use Rattle.perf_file.specs.FeatureTexts.{words_left};
@@ -246,6 +246,14 @@ fn type_values(alloc: Global, types: &[u64], others: u64) -> Result<Vec<Value>, 
     Ok(values)
 }
 
+// A type that so many frames have.
+fn type_value(alloc: Global, ty: usize, count: u64, name: &str) -> Result<Value, AllocError>
+    ensures { IfOk result (λ value. data_of value
+        ≡ jsons.type_object count name.now (Some ty)) }
+{
+    json!(in alloc; {"frames": count, "name": name, "type": ty})
+}
+
 // Appends a type, if a frame has it.
 fn push_type(
     values: &mut Vec<Value>,
@@ -259,8 +267,7 @@ fn push_type(
     if count == 0 {
         return Ok(());
     }
-    let name = type_name(ty);
-    values.push(json!(in alloc; {"frames": count, "name": name, "type": ty})?)?;
+    values.push(type_value(alloc, ty, count, type_name(ty))?)?;
     Ok(())
 }
 

@@ -63,15 +63,28 @@ fn push_thread(text: &mut String, who: ThreadId, thread: &Thread<'_>) -> Result<
     ensures { OnOk result (string_bytes text.new
         ≡ string_bytes text.old ++ texts.thread_line (who, thread.now)) }
 {
+    push_ids(text, who, thread.samples)?;
+    push_times(text, thread)?;
+    write!(text, " {}\n", ThreadName(thread.name))
+}
+
+// Appends the ids of a thread, and its samples.
+fn push_ids(text: &mut String, who: ThreadId, samples: u64) -> Result<(), AllocError>
+    ensures { OnOk result (string_bytes text.new
+        ≡ string_bytes text.old ++ texts.ids_words who samples) }
+{
     let (pid, tid) = who;
-    let samples = thread.samples;
+    write!(text, "thread {pid}/{tid} samples={samples}")
+}
+
+// Appends when a thread began and ended.
+fn push_times(text: &mut String, thread: &Thread<'_>) -> Result<(), AllocError>
+    ensures { OnOk result (string_bytes text.new
+        ≡ string_bytes text.old ++ texts.times_words thread.now) }
+{
     let start = Time(thread.start);
     let end = Time(thread.end);
-    let name = ThreadName(thread.name);
-    write!(
-        text,
-        "thread {pid}/{tid} samples={samples} start={start} end={end} {name}\n"
-    )
+    write!(text, " start={start} end={end}")
 }
 
 /// Threads as JSON.
