@@ -235,7 +235,10 @@ check_words() {
     fi
     sed 's/\\-/-/g; s/\\f[BIR]//g' "$1" >"$work/text"
     listed=$("$2" --help | sed -n 's/^  \([a-z]\{3,\}\)  *[A-Z].*/\1/p')
-    prints "$(echo $listed) --help" "bash offers the commands that perf_data lists" offers perf_data ""
+    # in whatever order
+    offers perf_data "" | tr ' ' '\n' | sort >"$work/offered"
+    try "bash offers the commands that perf_data lists" sh -c 'printf "%s\n" $2 --help | sort | diff - "$1"' \
+        sh "$work/offered" "$listed"
     for command in $listed; do
         prints "" "bash and the manual page have the options of perf_data $command" lacking "$command" "$work/text" "$2"
     done
