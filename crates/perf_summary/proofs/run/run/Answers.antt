@@ -17,10 +17,6 @@ returns g c =
     let how = c.write_text.result in
     let made = c.in_ok-text.ensures.text naming c.in_ok-recording.ensures.named in
     let text = made.2 ∙ ap (λ b. text_in c.args.form f b naming made.0) c.in_ok-recording.ensures.bytes in
-    let refused = c.in_ok-text.ensures.refused ∙ ap (λ b. is_any_refused f b) c.in_ok-recording.ensures.bytes in (
-      f,
-      c.in_ok-recording.ensures.exact,
-      made.0,
-      made.1,
-      subst (λ t. Writes how (is_any_refused f bytes) t old new) text (subst (λ b. Writes how b (string_bytes c.in_ok-text.text) old new) refused c.write_text.ensures),
-    )
+    let refused = c.in_ok-text.ensures.refused ∙ ap (λ b. is_any_refused f b) c.in_ok-recording.ensures.bytes in
+    let written = subst (λ t. Writes how (is_any_refused f bytes) t old new) text (subst (λ b. Writes how b (string_bytes c.in_ok-text.text) old new) refused c.write_text.ensures) in
+    (f, c.in_ok-recording.ensures.exact, (made.0, made.1, written))

@@ -13,8 +13,8 @@ returns-in-Text-clause-text c = λ naming named.
     (λ made e. (threads, c.in_ok-threads.ensures, e ∙ ap (λ form. text_in form (view r) r.bytes.now naming threads) (sym c.in-Text.is)))
     (c.text_of_summary.ensures.text naming named)
 
-pub returns-in-Json-clause-text : goal.returns-in-Json-clause-text
-returns-in-Json-clause-text c = λ naming named.
+pub returns-clause-text : goal.returns-clause-text
+returns-clause-text c = λ naming named.
     let r = c.args.recording.now in
     let threads = plain_threads c.in_ok-threads.threads.entries in
     IfOk-weaker c.json_of_summary.result _ _
