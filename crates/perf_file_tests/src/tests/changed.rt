@@ -42,10 +42,10 @@ fn opens(rt: &(impl AllocGlobal + Abort), bytes: &[u8], place: usize, byte: u8) 
 fn check_changed(rt: &(impl AllocGlobal + Abort), words: &[u64], byte: u8, want: usize) {
     match little(rt.alloc(), words) {
         Ok(bytes) => {
-            let mut count = 0;
+            let mut count = 0usize;
             for place in 0..bytes.len() {
                 if opens(rt, &bytes, place, byte) {
-                    count += 1;
+                    count = count.wrapping_add(1);
                 }
             }
             assert_eq!(rt; count, want, "bytes that are {byte}");
