@@ -723,7 +723,7 @@ def stopping(page):
     page.start()
     page.browser.run("delete document.documentElement.dataset.opened")
     page.browser.upload("#file", page.large)
-    page.browser.wait("return document.querySelector('progress').position > 0")
+    page.browser.wait("return document.querySelector('progress')?.position > 0")
     page.browser.click("#stop")
     true("stopped" in page.browser.text("#status"), "the page says that reading was stopped")
     true(page.browser.run("return document.querySelector('#choose') !== null"), "another file can be chosen")
