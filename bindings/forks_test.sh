@@ -15,7 +15,7 @@ run() {
         exec "$program" "${@:2}" "$work/file"
     )
 }
-for limits in '4000 2' '16000 8'; do
+for limits in '4000 1' '16000 8'; do
     read -r count seconds <<<"$limits"
     python3 forks.py "$count" "$work/file" "$work/lines"
     run "$seconds" fold | cmp - "$work/lines"
