@@ -2,7 +2,7 @@
 
 ghost use Rattle.std.specs.Prelude.{◌≡◌};
 ghost use Rattle.perf_words.specs.Branch.{Branch, mispred_of, predicted_of, in_tx_of, abort_of};
-ghost use Rattle.perf_words.specs.Branch.{cycles_of, branch_type_of};
+ghost use Rattle.perf_words.specs.Branch.{cycles_of, branch_type_of, reversed};
 
 use crate::field::bit_field;
 use crate::named::BranchType;
@@ -95,5 +95,24 @@ impl BranchEntry {
         ensures { result ≡ branch_type_of self.now.word }
     {
         BranchType::new(bit_field(self.word, 20, 4) as u8)
+    }
+
+    /// The branch of a word that a big-endian machine wrote, read as a number of its order. C lays
+    /// out bit fields from the highest bit there, and here from the lowest: `mispred` is bit 63,
+    /// and `cycles` bits 44 to 59. Each field keeps its number; bits without a field become 0.
+    pub fn reversed(&self) -> BranchEntry
+        ensures { result ≡ record {
+          from = self.now.from;
+          to = self.now.to;
+          word = reversed self.now.word;
+        } }
+    {
+        let flags = bit_field(self.word, 63, 1)
+            + bit_field(self.word, 62, 1) * 2
+            + bit_field(self.word, 61, 1) * 4
+            + bit_field(self.word, 60, 1) * 8;
+        let numbers = bit_field(self.word, 44, 16) * (1 << 4)
+            + bit_field(self.word, 40, 4) * (1 << 20);
+        BranchEntry::from_words(self.from, self.to, flags + numbers)
     }
 }

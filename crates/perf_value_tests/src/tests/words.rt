@@ -78,6 +78,20 @@ fn branch_words(rt: HostRuntime) {
     check_debug(&rt, types, "[BranchType(0), BranchType(6)]");
 }
 
+// Mispredicted, 5 cycles, type 6; predicted and aborted, 32,769 cycles, type 1: as a compiler for a
+// big-endian machine lays out these fields, from the highest bit.
+#[test]
+fn branch_words_of_a_big_endian_machine(rt: HostRuntime) {
+    let first = BranchEntry::from_words(1, 2, 0x8000_5600_0000_0000).reversed();
+    let second = BranchEntry::from_words(3, 4, 0x5800_1100_0000_0000).reversed();
+    check_debug(
+        &rt,
+        [first, second],
+        "[BranchEntry { from: 1, to: 2, word: 6291537 }, \
+          BranchEntry { from: 3, to: 4, word: 1572890 }]",
+    );
+}
+
 // How many numbers an entry has under read formats.
 fn element_lens() -> [usize; 4] {
     [
