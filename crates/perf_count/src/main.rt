@@ -16,7 +16,8 @@
 //!
 //! The exit status is 0 if no frame was refused and the input ended after one, 2 for other arguments,
 //! and 1 otherwise. Why the attribute was refused, or why the input was not read to its end, is
-//! printed on standard error. `--help` alone prints the usage, with the status 0.
+//! printed on standard error, and without `attr` what to try if a frame was refused. `--help` alone
+//! prints the usage, with the status 0.
 #![tactic(auto)]
 
 use anyhow::{Result, bail};
@@ -24,6 +25,7 @@ use perf_event_data::RunEnd;
 use perf_event_data::endian::{Big, Little, Native};
 use perf_event_data::parse::{ErrorKind, ParseError, ParseResult};
 use perf_reports::counts::Counts;
+use perf_reports::printing::no_attribute;
 use perf_reports::streams::count_stream;
 use perf_text::args::unlimited_command;
 use perf_text::command::Command;
@@ -40,6 +42,10 @@ Prints how many frames there are, how many of them were refused, and a checksum 
 With attr the stream begins with an attribute, as examples/perf-data-to-stream.sh writes it.
 Status: 0 if no frame was refused, 1 if one was or on an error, 2 for other arguments.";
 
+// What to try if what is read without an attribute may be no records.
+const NO_RECORDS: &str = "perf_count: if the input begins with an attribute, add the word attr; if \
+    it is a file of `perf record`, use perf_data";
+
 // How many bytes are read at a time. A frame has fewer than 65,536, so that few frames lie across two
 // reads and have to be assembled.
 const INPUT_ROOM: usize = 1 << 20;
@@ -50,6 +56,7 @@ fn main(rt: HostRuntime) -> Result<ExitCode> {
         return Ok(ExitCode::from(print_usage(&rt, &words, USAGE)?));
     };
     let input = BufReader::with_capacity(rt.alloc(), INPUT_ROOM, rt.stdin())?;
+    let with_attr = command.with_attr;
     let (counts, end) = match count_command(rt.alloc(), input, command) {
         Ok((_, RunEnd::Fault(error))) if error.kind() == ErrorKind::External => bail_with(error)?,
         Ok(result) => result,
@@ -61,6 +68,10 @@ fn main(rt: HostRuntime) -> Result<ExitCode> {
         checksum,
     } = counts;
     println!(rt; "{records} {refused} {checksum}")?;
+    if !with_attr && (refused > 0 || matches!(end, RunEnd::CutHeader)) {
+        // If standard error fails, the status alone reports it.
+        let _ = rt.eprintln(NO_RECORDS);
+    }
     match end {
         RunEnd::Limit | RunEnd::Done if refused == 0 => Ok(ExitCode::SUCCESS),
         RunEnd::Limit | RunEnd::Done => Ok(ExitCode::FAILURE),
@@ -86,6 +97,6 @@ fn count_command<R: Read + Drop>(
 fn bail_with(error: ParseError) -> Result<(Counts, RunEnd)> {
     match error.cause() {
         Some(cause) => bail!("{cause}"),
-        None => Err(error.into()),
+        None => Err(no_attribute(error)),
     }
 }

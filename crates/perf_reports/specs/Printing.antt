@@ -1,11 +1,11 @@
 -- What is printed of a record, and how much of that was written.
-use Rattle.std.specs.Prelude.{◌≡◌, ℕ, Bool, true, false, List, [], ◌++◌, Option, Some, None, ⊤, codes}
+use Rattle.std.specs.Prelude.{◌≡◌, ℕ, Bool, true, false, List, [], ◌++◌, Option, Some, None, ⊤, codes, if◌then◌else◌}
 use Rattle.std.specs.Prelude.{Result, Ok, Err}
 use Rattle.std.specs.List.{flat_map}
 use Rattle.std.specs.Io.KnownBytes.{Appends}
 use Rattle.anyhow.specs.Error.{HasMessage, IsMadeOf}
 use Rattle.anyhow.specs.declared.error.Error.{Error}
-use Rattle.perf_base.specs.Errors.{error_text}
+use Rattle.perf_base.specs.Errors.{error_text, kind_of, of_layout}
 use Rattle.perf_base.specs.declared.sys.perf_event_header.{perf_event_header}
 use Rattle.perf_base.specs.declared.error.ErrorKind.{ErrorKind}
 use Rattle.perf_base.specs.declared.error.ParseError.{ParseError}
@@ -83,3 +83,10 @@ StopsReading end.Limit why = ⊥
 StopsReading end.Done why = ⊥
 StopsReading end.CutHeader why = HasMessage (Some (codes "the input ends inside a header")) why
 StopsReading (end.Fault e) why = IsMadeOf (Some (error_text e)) why
+
+-- the message of an error that an attribute at the start was refused with: bytes that are no
+-- attribute may be a file of perf record
+abbrev pub attribute_message : ParseError → List ℕ
+attribute_message e = if of_layout (kind_of e)
+    then codes "the input does not begin with an attribute; if it is a file of `perf record`, use perf_data"
+    else error_text e

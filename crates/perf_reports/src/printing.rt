@@ -1,17 +1,18 @@
 //! Lines of a recording: one for each record that a report covers.
 
 ghost use Rattle.std.specs.Prelude.{◌≡◌, ◌≤◌, ◌⊎◌, ◌++◌, ℕ, false, IsTrue, [], take, length, string_bytes};
-ghost use Rattle.std.specs.Prelude.{OnOk, IfOk, IfErr, IfSome, if◌then◌else◌};
+ghost use Rattle.std.specs.Prelude.{OnOk, IfOk, IfErr, IfSome, Some, if◌then◌else◌};
 ghost use Rattle.std.specs.Io.KnownBytes.{Appends};
+ghost use Rattle.anyhow.specs.Error.{HasMessage};
 ghost use Rattle.perf_buffers.specs.Prelude.{reader_remaining};
 ghost use Rattle.perf_parser.specs.Prelude.{buffer_of, config_of, state_of};
 ghost use Rattle.perf_reports.specs.FramePrinting.{PrintsAll, PrintsFirst, PrintsLines, PrintsRecording, PrintsRun, answers_left, recording_answers};
-ghost use Rattle.perf_reports.specs.Printing.{found_value, text_of_record, printed_answers, is_memory};
+ghost use Rattle.perf_reports.specs.Printing.{attribute_message, found_value, text_of_record, printed_answers, is_memory};
 ghost use Rattle.perf_reports.specs.Printing.{Grows, GrowsWithin, StopsReading};
 
 use crate::frame_printer::FramePrinter;
 use crate::{samples, tasks};
-use anyhow::{Result, bail};
+use anyhow::{Error as AnyError, Result, bail};
 use core::mem::replace_with;
 use perf_event_data::endian::{Endian, Little};
 use perf_event_data::parse::{ParseBuf, ParseConfig, ParseError, Parser};
@@ -27,6 +28,10 @@ const BATCH: usize = 256;
 // The maximum number of bytes of lines that are written together. Only a longer line is written
 // alone. A pipe keeps a write of this size in one piece (`PIPE_BUF`).
 const GATHERED: usize = 4096;
+
+// What is told of bytes that are no attribute.
+const NO_ATTRIBUTE: &str =
+    "the input does not begin with an attribute; if it is a file of `perf record`, use perf_data";
 
 /// What is printed of a recording.
 #[derive(Copy, Clone, Debug)]
@@ -278,12 +283,28 @@ pub fn print_buffer<'p, B: ParseBuf<'p> + Drop, W: Write, E: Write>(
     let parser = Parser::new(alloc, buf, ParseConfig::<Little>::default());
     let mut parser = match parser.after_attribute() {
         Ok(parser) => parser,
-        Err(error) => return (Err(error.into()), output, errors),
+        Err(error) => return (Err(no_attribute(error)), output, errors),
     };
     let mut printer = FramePrinter::new(alloc, output, errors, report);
     let clean = print_records(&mut parser, &mut printer);
     let (output, errors) = printer.into_outputs();
     (clean, output, errors)
+}
+
+/// An error of [`Parser::after_attribute`] with what to try: bytes that are refused as an attribute
+/// may be a file of `perf record`. The error itself is its cause. A fault, and out of memory, keep
+/// their own messages.
+#[cold]
+pub fn no_attribute(error: ParseError) -> AnyError
+    ensures { HasMessage (Some (attribute_message error)) result }
+{
+    let is_of_layout = error.kind().is_of_layout();
+    let error = AnyError::from(error);
+    if is_of_layout {
+        error.context(NO_ATTRIBUTE)
+    } else {
+        error
+    }
 }
 
 // Prints the records that a parser reads up to the end of its buffer, and returns whether none was

@@ -316,7 +316,7 @@ const PRINTED: [Printed; 14] = [
         fault: None,
         output: b"",
         errors: b"",
-        end: "invalid record: not a valid size for a perf_event_attr struct",
+        end: NO_ATTRIBUTE,
     },
     Printed {
         name: "an input that ends inside the attribute is an error",
@@ -326,7 +326,7 @@ const PRINTED: [Printed; 14] = [
         fault: None,
         output: b"",
         errors: b"",
-        end: "unexpected EOF during parsing",
+        end: NO_ATTRIBUTE,
     },
     Printed {
         name: "an input that fails there is another",
@@ -339,6 +339,9 @@ const PRINTED: [Printed; 14] = [
         end: "user-provided error: other error",
     },
 ];
+
+const NO_ATTRIBUTE: &str =
+    "the input does not begin with an attribute; if it is a file of `perf record`, use perf_data";
 
 // The text of how it ended.
 fn text_of_end(alloc: Global, outcome: AnyResult<bool>) -> Result<String, AllocError> {
