@@ -276,6 +276,12 @@ check_recordings_of_files() {
     small=$top/examples/killed.data
     try "a bundled file as a recording" "$1/recording" "$small"
     [ -z "$has_cxx" ] || try "the same in C++" "$1/recording_cpp" "$small"
+    : >"$work/nothing"
+    for path in "$work/nothing" "$work/absent"; do
+        "$1/recording" --lines file "$path" >"$work/text" 2>"$work/log"
+        [ $? = 2 ] && [ ! -s "$work/text" ] && grep -qE 'no perf.data file|No such file' "$work/log" &&
+            pass "a recording that is ${path##*/}" || fail "a recording that is ${path##*/}: $(cat "$work/log")"
+    done
     if [ -n "$sanitize" ]; then
         try "bundled files as recordings, cut and changed, sanitized" "$2/recording" "$top"/examples/*.data
     fi

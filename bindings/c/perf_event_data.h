@@ -213,7 +213,8 @@ struct ped_split_end ped_read_split(const struct ped_config *config, const uint8
  * gives to `config` and its size in bytes to `taken`, and returns PED_ACCEPTED. If it is refused, it
  * returns PED_EOF, PED_INVALID_RECORD (a size that no attribute has had) or PED_UNSUPPORTED_DATA (a byte
  * that is not zero after the fields that are known), and PED_UNSUPPORTED_CONFIG if there is no such
- * order; nothing is written then. */
+ * order; nothing is written then. A file of `perf record` does not begin with an attribute: ped_file_open
+ * reads it, and the program perf_data prints it. */
 uint32_t ped_read_attr(const uint8_t *bytes, size_t len, uint32_t order, struct ped_config *config,
                        size_t *taken);
 

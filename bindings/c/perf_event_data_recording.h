@@ -251,29 +251,25 @@ static inline void ped_recording_batch(struct ped_recording *recording)
     recording->batch = batch + 1;
 }
 
-/* ---- what a program calls */
-
-/* Gives back what a recording has taken, and returns what ped_recording_open has returned, which its message
- * still tells. It may be called more than once. */
-static inline uint32_t ped_recording_close(struct ped_recording *recording)
+/* Gives back what was taken: the recording has no frames then. */
+static inline void ped_recording_release(struct ped_recording *recording)
 {
-    const struct ped_recording closed = *recording;
-    if (closed.is_mapped) {
-        munmap(closed.memory, closed.len);
+    const struct ped_recording taken = *recording;
+    if (taken.is_mapped) {
+        munmap(taken.memory, taken.len);
     } else {
-        free(closed.memory);
+        free(taken.memory);
     }
-    free(closed.events);
-    free(closed.ids);
-    free(closed.entries);
-    free(closed.frames);
+    free(taken.events);
+    free(taken.ids);
+    free(taken.entries);
+    free(taken.frames);
     memset(recording, 0, sizeof *recording);
-    recording->refusal = closed.refusal;
-    recording->error = closed.error;
-    return closed.refusal;
+    recording->refusal = taken.refusal;
+    recording->error = taken.error;
 }
 
-/* Reads what is known of the bytes that are there, unless they were refused; if they are, all is given back. */
+/* Reads what is known of the bytes that are there, unless they were refused. */
 static inline uint32_t ped_recording_begin(struct ped_recording *recording, enum ped_recording_order order)
 {
     if (recording->refusal == PED_FILE_READ) {
@@ -287,13 +283,14 @@ static inline uint32_t ped_recording_begin(struct ped_recording *recording, enum
         recording->refusal = recording->frames == NULL ? PED_FILE_NO_MEMORY : PED_FILE_READ;
     }
     if (recording->refusal != PED_FILE_READ) {
-        return ped_recording_close(recording);
-    }
-    if (order == PED_IN_TIME_ORDER) {
+        ped_recording_release(recording);
+    } else if (order == PED_IN_TIME_ORDER) {
         ped_file_sort(recording->entries, recording->count);
     }
-    return PED_FILE_READ;
+    return recording->refusal;
 }
+
+/* ---- what a program calls */
 
 /* Opens the file of this path, or, for "-", what is left of standard input, and returns PED_FILE_READ; or why
  * it is refused, by ped_file_open or ped_file_events, PED_FILE_NO_MEMORY, or PED_FILE_NOT_OPENED. It has no
@@ -364,6 +361,14 @@ static inline char *ped_recording_name(const struct ped_recording *recording, co
         text[count] = '\0';
     }
     return text;
+}
+
+/* Gives back what a recording has taken, and returns what ped_recording_open has returned, which its message
+ * still tells. It may be called more than once. */
+static inline uint32_t ped_recording_close(struct ped_recording *recording)
+{
+    ped_recording_release(recording);
+    return recording->refusal;
 }
 
 #ifdef __cplusplus

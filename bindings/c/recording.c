@@ -216,6 +216,11 @@ static void check_no_event(const struct ped_recording *recording)
     check((frame->type & 255) == header_byte(recording, 0, 4), "another type");
     check((frame->refusal == PED_INVALID_RECORD) == (frame->size < 8), "another refusal of a small size");
     check(recording->entry->owner == PED_OWNER_PERF || frame->refusal != PED_ACCEPTED, "no event, and accepted");
+    if (frame->refusal == PED_ACCEPTED) {
+        const struct ped_config config = {PED_VERSION, recording->file.order, 0, 0, 0, 0, 0, 0};
+        check(ped_read(&config, recording->frame_bytes, frame->size, &plain) == PED_LIMIT
+                  && memcmp(&plain, frame, sizeof plain) == 0, "a frame without an event is not that of the calls");
+    }
 }
 
 static void check_frame(const struct ped_recording *recording, const struct expected *it, size_t index)
