@@ -203,6 +203,22 @@ check_words() {
     fi
 }
 
+# A file of `perf record` in place of a stream: each proved program names perf_data, which reads it.
+check_other_files() {
+    for words in "perfrec little 100" "perfrec little 100 attr" perf_samples perf_tasks "perf_count little" \
+        "perf_count little attr"; do
+        name=${words%% *}
+        if path=$(program "$name"); then
+            # the words after the name may be none
+            "$path" ${words#"$name"} <"$top/examples/events.data" >/dev/null 2>"$work/log"
+            [ $? != 0 ] && grep -q 'file of `perf record`.*perf_data' "$work/log" && pass "$words names perf_data" ||
+                fail "$words does not name perf_data: $(cat "$work/log")"
+        else
+            skip "a file of perf record by the proved $words: it is not given"
+        fi
+    done
+}
+
 # The first list is read by all programs, plain and sanitized.
 check_streams() {
     if ! command -v python3 >/dev/null; then
@@ -351,6 +367,7 @@ check_texts "$work/plain"
 check_recordings "$work/plain"
 check_words "$work/plain" "$work/sanitized"
 check_counts "$work/plain"
+check_other_files
 check_streams "$work/plain" "$work/sanitized"
 check_files "$work/plain" "$work/sanitized"
 run_programs plain "plain"
