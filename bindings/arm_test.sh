@@ -31,18 +31,21 @@ package() {
     PKG_CONFIG_PATH=$prefix/lib/pkgconfig pkg-config "$@" perf_event_data
 }
 
-# Runs a first program: run NAME PROGRAM
+# Runs a program, which has to print `expected`: run NAME PROGRAM WORD..
 run() {
-    found=$(LD_LIBRARY_PATH=$prefix/lib qemu-aarch64-static -L /usr/aarch64-linux-gnu "$2" 2>&1)
-    [ "$found" = "8 lost" ] && pass "$1" || fail "$1: $found"
+    name=$1
+    shift
+    found=$(LD_LIBRARY_PATH=$prefix/lib qemu-aarch64-static -L /usr/aarch64-linux-gnu "$@" 2>&1)
+    [ "$found" = "$expected" ] && pass "$name" || fail "$name: $found"
 }
 
-# Builds and runs one: try NAME COMPILER WORD..
+# Builds and runs one, with `words` after it: try NAME COMPILER WORD..
 try() {
     name=$1
     shift
     if "$@" -o "$work/$name" >"$work/log" 2>&1; then
-        run "$name" "$work/$name"
+        # the words may be none
+        run "$name" "$work/$name" $words
     else
         fail "build $name: $(tail -n 3 "$work/log")"
     fi
@@ -76,7 +79,7 @@ objects=$("${cross}readelf" -h "$prefix"/lib/libperf_event_data.a "$prefix"/lib/
 find "$prefix/share/perf_event_data/python" -name '*.py' | grep -q . && pass "the Python module" || fail "no Python module"
 echo "skipped: Python: no python3 for arm64 is run here"
 
-warnings="-Wall -Wextra -Wpedantic -Werror"
+warnings="-Wall -Wextra -Wpedantic -Werror" expected="8 lost" words=
 # the words that pkg-config returns are several
 try first_c ${cross}gcc -std=c99 $warnings $(package --cflags) "$here/first/first.c" "$prefix/lib/libperf_event_data.a"
 try first_shared ${cross}gcc -std=c99 $warnings "$here/first/first.c" $(package --cflags --libs)
@@ -87,6 +90,8 @@ else
     echo "skipped: first_cpp: no ${cross}g++"
 fi
 try_rust
+expected=$(cat "$here/../examples/events.samples") words=$here/../examples/events.data
+try samples ${cross}gcc -std=c99 $warnings $(package --cflags) "$here/first/samples.c" "$prefix/lib/libperf_event_data.a"
 pack && cmp -s "$work"/out/*-$target.tar.gz "$work/first.tar.gz" && pass "the package is the same each time" ||
     fail "the package differs from one time to the next"
 exit $status

@@ -54,7 +54,12 @@ python_with_numpy() {
 }
 
 python_face() {
-    make -s -C bindings shared OUT="$work/out" ARCHIVE="$archive" >"$work/log" 2>&1
+    if ! make -s -C bindings shared OUT="$work/out" ARCHIVE="$archive" >"$work/log" 2>&1; then
+        echo "FAILED: Python: no shared object"
+        tail -n 20 "$work/log" | sed 's/^/    | /'
+        status=1
+        return
+    fi
     shared=$(find "$work/out/shared" -name 'libperf_event_data.so.*' 2>/dev/null)
     if [ -z "$shared" ]; then
         echo "skipped: Python: $(tail -n 1 "$work/log")"
@@ -127,12 +132,15 @@ archive=$work/llvm/libperf_event_c.a
 second=$work/rattle/libperf_event_c.a
 if [ $# -gt 0 ]; then
     cp "$1" "$archive" || exit 2
+elif [ -n "$(absent python3)" ]; then
+    echo "skipped: the faces: no python3"
+    exit $status
 elif python3 bindings/gate_archive.py "$work" x86_64-unknown-linux-gnu $targets >"$work/log" 2>&1 </dev/null; then
     cat "$work/log"
 else
     echo "skipped: the faces: $(head -n 1 "$work/log")"
     tail -n +2 "$work/log"
-    exit 0
+    exit $status
 fi
 face "names of functions in folded stacks" "awk sed" bindings/stacks_test.sh
 face "C and C++" "cc c++ make nm" bindings/test.sh "$archive" crates

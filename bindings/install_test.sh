@@ -111,8 +111,10 @@ order=cat
 has_counts() {
     of=$1
     shift
-    for name in events pipe; do
-        prints "$(awk -f "$here/../examples/count-samples.awk" "$here/../examples/$name.time" | $order)" \
+    for name in events machine group killed big-endian pipe; do
+        expected=$name
+        [ $name != big-endian ] || expected=events
+        prints "$(awk -f "$here/../examples/count-samples.awk" "$here/../examples/$expected.time" | $order)" \
             "$of of $name.data" "$@" "$here/../examples/$name.data" <"$here/../examples/$name.data"
     done
 }
@@ -126,7 +128,8 @@ build_page() {
 # The programs of docs/LINKING.md and of both README, over the copy in `prefix`.
 try_pages() {
     build_page names && has_names "run names.c" "$work/names"
-    build_page samples && has_counts "run samples.c" "$work/samples"
+    build_page samples && has_counts "run samples.c" "$work/samples" &&
+        has_counts "run samples.c at a pipe" sh -c 'cat | "$0"' "$work/samples"
     if [ -n "$shared" ] && command -v python3 >/dev/null; then
         has_names "run names.py" env PYTHONPATH="$prefix/share/perf_event_data/python" \
             python3 "$here/first/names.py" "$here/../examples/recording.stream"
@@ -136,8 +139,8 @@ try_pages() {
         skip "names.py and samples.py: no shared object, or no python3"
     fi
     if command -v cargo >/dev/null; then
-        # by rising numbers of tasks, of which all have as many digits, and events
-        order=sort
+        # by rising numbers of tasks and events
+        order="sort -k2,2n -k4,4n"
         build_rust "$here/first/samples.rs" samples.rs PKG_CONFIG=false &&
             has_counts "run samples.rs" "$work/target/debug/first"
         rm -rf "$work/target"

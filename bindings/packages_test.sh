@@ -144,7 +144,8 @@ try_cmake() {
     else
         skip "the shared library: the archive is not position independent"
     fi
-    mkdir "$work/project" && cp "$work/first.c" "$work/project/first.c" && cp "$work/first.c" "$work/project/first.cpp"
+    mkdir "$work/project" && cp "$work/first.c" "$here/first/samples.c" "$work/project" &&
+        cp "$work/first.c" "$work/project/first.cpp"
     {
         printf 'cmake_minimum_required(VERSION 3.10)\nproject(first C CXX)\n'
         printf 'find_package(perf_event_data ${LEAST} REQUIRED)\n'
@@ -153,6 +154,8 @@ try_cmake() {
                 printf 'add_executable(%s first.%s)\n' "${kind}_$language" $language
                 printf 'target_link_libraries(%s PRIVATE perf_event_data::%s)\n' "${kind}_$language" $kind
             done
+            printf 'add_executable(%s_samples samples.c)\n' $kind
+            printf 'target_link_libraries(%s_samples PRIVATE perf_event_data::%s)\n' $kind $kind
         done
     } >"$work/project/CMakeLists.txt"
     configure "$version" >"$work/log" 2>&1 && pass "cmake finds version $version" || fail "cmake: $(cat "$work/log")"
@@ -163,6 +166,7 @@ try_cmake() {
     for kind in $kinds; do
         try_first "run the program in C, $kind" "$work/project/$version/${kind}_c"
         try_first "run the program in C++, $kind" "$work/project/$version/${kind}_cpp"
+        try_samples "run samples.c, $kind" "$work/project/$version/${kind}_samples"
     done
 }
 
@@ -194,6 +198,8 @@ try_deb() {
         try_first "run first.c" env LD_LIBRARY_PATH="$folder" "$work/first_c"
     try "build first.c, static" cc -std=c99 -I"$root/usr/include" -o "$work/first_static" "$work/first.c" \
         "$folder/libperf_event_data.a" && try_first "run first.c, static" "$work/first_static"
+    try "build samples.c" cc -std=c99 -Wall -Wextra -Werror -o "$work/samples" "$here/first/samples.c" $words &&
+        try_samples "run samples.c" env LD_LIBRARY_PATH="$folder" "$work/samples"
     try_first "run first.py" env LD_LIBRARY_PATH="$folder" PYTHONPATH="$root/usr/lib/python3/dist-packages" \
         python3 "$work/first.py"
 }

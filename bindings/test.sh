@@ -87,6 +87,19 @@ check_refused() {
     done
 }
 
+# The headers alone, with more warnings than the programs.
+check_warnings() {
+    warnings="-Wall -Wextra -Wpedantic -Wconversion -Wsign-conversion -Wshadow -Werror"
+    for header in perf_event_data perf_event_data_recording; do
+        echo "#include <$header.h>" >"$work/header.c"
+        # the warnings are several words
+        try "$header.h in C99, without warnings" "$cc" -std=c99 $warnings -I "$top/bindings/c" -c -o "$work/header.o" \
+            "$work/header.c"
+        [ -z "$has_cxx" ] || try "$header.h in C++17, without warnings" "$cxx" -std=c++17 $warnings \
+            -I "$top/bindings/c" -x c++ -c -o "$work/header.o" "$work/header.c"
+    done
+}
+
 # ---- the programs
 
 build() {
@@ -190,6 +203,22 @@ check_words() {
     fi
 }
 
+# A file of `perf record` in place of a stream: each proved program names perf_data, which reads it.
+check_other_files() {
+    for words in "perfrec little 100" "perfrec little 100 attr" perf_samples perf_tasks "perf_count little" \
+        "perf_count little attr"; do
+        name=${words%% *}
+        if path=$(program "$name"); then
+            # the words after the name may be none
+            "$path" ${words#"$name"} <"$top/examples/events.data" >/dev/null 2>"$work/log"
+            [ $? != 0 ] && grep -q 'file of `perf record`.*perf_data' "$work/log" && pass "$words names perf_data" ||
+                fail "$words does not name perf_data: $(cat "$work/log")"
+        else
+            skip "a file of perf record by the proved $words: it is not given"
+        fi
+    done
+}
+
 # The first list is read by all programs, plain and sanitized.
 check_streams() {
     if ! command -v python3 >/dev/null; then
@@ -230,18 +259,25 @@ check_more() {
     done
 }
 
-# The lines of the bundled files, of which that of a big-endian machine is a copy of another.
-check_file_lines() {
+# The lines of the bundled files by a program, of which that of a big-endian machine is a copy of another.
+check_lines() {
     for name in events machine group killed big-endian pipe; do
         expected=$top/examples/$name
         [ $name != big-endian ] || expected=$top/examples/events
-        "$1/file" --lines file "$top/examples/$name.data" >"$work/text"
-        compare "lines of examples/$name.data" "$expected.dump" "$work/text"
-        "$1/file" --lines time "$top/examples/$name.data" >"$work/text"
-        compare "lines of examples/$name.data by time" "$expected.time" "$work/text"
-        "$1/file" --lines events "$top/examples/$name.data" >"$work/text"
-        compare "events of examples/$name.data" "$expected.events" "$work/text"
+        "$1" --lines file "$top/examples/$name.data" >"$work/text"
+        compare "lines of examples/$name.data$2" "$expected.dump" "$work/text"
+        "$1" --lines time "$top/examples/$name.data" >"$work/text"
+        compare "lines of examples/$name.data by time$2" "$expected.time" "$work/text"
+        "$1" --lines events "$top/examples/$name.data" >"$work/text"
+        compare "events of examples/$name.data$2" "$expected.events" "$work/text"
     done
+}
+
+check_file_lines() {
+    check_lines "$1/file" ""
+    check_lines "$1/recording" ", as a recording"
+    cat "$top/examples/pipe.data" | "$1/recording" --lines time - >"$work/text"
+    compare "lines of a pipe, as a recording" "$top/examples/pipe.time" "$work/text"
     # what perf wrote into a file and to a pipe has one command, but for its output
     printf '%s\n' vm 6.18.44-fc-v595 /usr/bin/perf record -q -B -o - >"$work/theirs"
     "$1/file" --lines header "$top/examples/pipe.data" | head -n 8 >"$work/text"
@@ -249,6 +285,26 @@ check_file_lines() {
     "$1/file" --lines header "$top/examples/pipe.data" | sed 's/^-$/events.data/' >"$work/theirs"
     "$1/file" --lines header "$top/examples/events.data" >"$work/text"
     compare "the same of examples/events.data" "$work/theirs" "$work/text"
+}
+
+# The calls that take memory, of which each is refused, and damaged copies.
+check_recordings_of_files() {
+    small=$top/examples/killed.data
+    try "a bundled file as a recording" "$1/recording" "$small"
+    [ -z "$has_cxx" ] || try "the same in C++" "$1/recording_cpp" "$small"
+    : >"$work/nothing"
+    for path in "$work/nothing" "$work/absent"; do
+        "$1/recording" --lines file "$path" >"$work/text" 2>"$work/log"
+        [ $? = 2 ] && [ ! -s "$work/text" ] && grep -qE 'no perf.data file|No such file' "$work/log" &&
+            pass "a recording that is ${path##*/}" || fail "a recording that is ${path##*/}: $(cat "$work/log")"
+    done
+    if [ -n "$sanitize" ]; then
+        try "bundled files as recordings, cut and changed, sanitized" "$2/recording" "$top"/examples/*.data
+    fi
+    if [ -n "$valgrind" ]; then
+        try "lines of a recording leak nothing, under valgrind" valgrind -q --leak-check=full \
+            --errors-for-leak-kinds=all --error-exitcode=9 "$1/recording" --lines time "$small"
+    fi
 }
 
 # The frames of each event of the example, counted as its expected text has them, and of a file that perf writes on
@@ -260,6 +316,7 @@ check_files() {
     "$1/file" "$top/examples/events.data" | sed 's/.*: \([0-9]*\) frames.*/\1/' >"$work/text"
     compare "frames of each event of examples/events.data" "$work/theirs" "$work/text"
     [ -z "$sanitize" ] || try "bundled files cut and changed, sanitized" "$2/file" --cuts "$top"/examples/*.data
+    check_recordings_of_files "$1" "$2"
     if ! command -v perf >/dev/null || ! perf record -q -e task-clock,page-faults -F 4000 -o "$work/perf.data" \
         ls -R "$top/bindings" >/dev/null 2>&1; then
         skip "files of perf record: perf may not record here"
@@ -291,8 +348,9 @@ check_symbols
 check_declared
 check_refused
 has_cxx=$(command -v "$cxx")
+check_warnings
 [ -n "$has_cxx" ] || skip "calls by hand in C++: no $cxx"
-programs="calls ${has_cxx:+calls_cpp} replay perfrec perf_count reports file guard live"
+programs="calls ${has_cxx:+calls_cpp} replay perfrec perf_count reports file recording ${has_cxx:+recording_cpp} guard live"
 sanitize=address,undefined
 echo 'int main(void) { return 0; }' >"$work/empty.c"
 if [ -n "$run" ]; then
@@ -309,6 +367,7 @@ check_texts "$work/plain"
 check_recordings "$work/plain"
 check_words "$work/plain" "$work/sanitized"
 check_counts "$work/plain"
+check_other_files
 check_streams "$work/plain" "$work/sanitized"
 check_files "$work/plain" "$work/sanitized"
 run_programs plain "plain"

@@ -51,6 +51,14 @@ try_first() {
     prints "8 lost" "$@"
 }
 
+# Runs the other words, with the path of a file of `perf record` after them: they have to print how many samples each
+# task has of each event.
+try_samples() {
+    label=$1
+    shift
+    prints "$(cat "$here/../examples/events.samples")" "$label" "$@" "$here/../examples/events.data"
+}
+
 make_quietly() {
     goal=$1
     shift

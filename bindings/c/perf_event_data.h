@@ -213,7 +213,8 @@ struct ped_split_end ped_read_split(const struct ped_config *config, const uint8
  * gives to `config` and its size in bytes to `taken`, and returns PED_ACCEPTED. If it is refused, it
  * returns PED_EOF, PED_INVALID_RECORD (a size that no attribute has had) or PED_UNSUPPORTED_DATA (a byte
  * that is not zero after the fields that are known), and PED_UNSUPPORTED_CONFIG if there is no such
- * order; nothing is written then. */
+ * order; nothing is written then. A file of `perf record` does not begin with an attribute: ped_file_open
+ * reads it, and the program perf_data prints it. */
 uint32_t ped_read_attr(const uint8_t *bytes, size_t len, uint32_t order, struct ped_config *config,
                        size_t *taken);
 
@@ -233,10 +234,10 @@ uint32_t ped_identifier(const uint8_t *bytes, size_t len, uint32_t order, uint32
 /* ---- files that `perf record` wrote
  *
  * A file is in memory as a whole, mapped or read: one that `perf record` wrote, or what `perf record -o -`
- * writes to a pipe. ped_file_open states how much memory its events
- * need, ped_file_events reads them, ped_file_names finds their names, ped_file_next goes over its frames
- * in the order of the file, ped_file_sort puts their entries in order of time, and ped_file_read reads
- * frames, each under its own event. */
+ * writes to a pipe. ped_file_open states how much memory its events need, ped_file_events reads them,
+ * ped_file_names finds their names, ped_file_next goes over its frames in the order of the file,
+ * ped_file_sort puts their entries in order of time, and ped_file_read reads frames, each under its own
+ * event. perf_event_data_recording.h opens a file by its path, and makes these calls. */
 
 /* Why a file is refused: the first check that fails, in the order of the numbers. Events are numbered
  * from 0, in the order of the file. */
@@ -259,7 +260,7 @@ enum ped_file_refusal {
     PED_FILE_OVERLAP = 15,       /* two parts of the file share a byte */
     PED_FILE_NO_ID_PLACE = 16,   /* several events without a common place of their ids */
     PED_FILE_SHARED_ID = 17,     /* two events have one id */
-    PED_FILE_NO_MEMORY = 18,     /* not returned: no memory is asked for */
+    PED_FILE_NO_MEMORY = 18,     /* of perf_event_data_recording.h: no call here asks for memory */
     PED_FILE_OTHER_COUNT = 19,   /* no refusal: an array does not have as many elements as it needs */
     PED_FILE_NO_FEATURE = 20,    /* no refusal: the file does not have the feature */
     PED_FILE_CUT_FEATURE = 21    /* no refusal: the feature ends beyond the file */

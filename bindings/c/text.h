@@ -5,6 +5,10 @@
 #include <stdio.h>
 #include "perf_event_data.h"
 
+#ifdef __cplusplus
+extern "C" {
+#endif
+
 /* What is to be printed of a stream. */
 struct command {
     uint32_t order;
@@ -33,4 +37,7 @@ void print_answer(FILE *out, uint32_t order, const uint8_t *bytes, const struct 
 /* All bytes of a file, to be freed; NULL if it cannot be read. */
 uint8_t *read_file(FILE *file, size_t *len);
 
+#ifdef __cplusplus
+}
+#endif
 #endif

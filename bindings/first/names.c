@@ -36,6 +36,7 @@ int main(void)
     }
     memcpy(&attr, recording, PERF_ATTR_SIZE_VER0);
     if (attr.size < PERF_ATTR_SIZE_VER0 || attr.size > len) {
+        fputs("this begins with no attribute: of a file of `perf record` see samples.c, or the program perf_data\n", stderr);
         return 1;
     }
     memcpy(&attr, recording, attr.size < sizeof attr ? attr.size : sizeof attr);

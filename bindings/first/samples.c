@@ -1,46 +1,20 @@
-/* Counts the samples of a file of `perf record`, on standard input, by task and event, in order of time:
- *
- *     cc samples.c $(pkg-config --cflags --libs perf_event_data)
- */
+/* Counts the samples of a file of `perf record` by task and event, in order of time. */
+#include <perf_event_data_recording.h>
 #include <stdio.h>
-#include <stdlib.h>
-#include <perf_event_data.h>
 
-static uint8_t bytes[1 << 26];
-static struct count { unsigned tid, event, samples; } counts[(1 << 26) / 8];
-
-int main(void)
+int main(int argc, char **argv)
 {
-    size_t len = fread(bytes, 1, sizeof bytes, stdin), i;
-    struct ped_file file = {0};
-    uint32_t refusal = ped_file_open(bytes, len, &file);
-    struct ped_event *events = calloc(file.events + 1, sizeof *events);
-    struct ped_part *parts = calloc(PED_FILE_PARTS(file.events), sizeof *parts);
-    struct ped_id *ids = calloc(file.ids + 1, sizeof *ids);
-    struct ped_entry *entries = calloc(len / 8 + 1, sizeof *entries), *entry = entries, *end = entries;
-    uint64_t at = 0;
-    if (refusal == PED_FILE_READ) {
-        refusal = ped_file_events(bytes, len, events, file.events, parts, PED_FILE_PARTS(file.events), ids, file.ids);
+    struct ped_recording file;
+    if (ped_recording_open(argc > 1 ? argv[1] : "-", PED_IN_TIME_ORDER, &file) != PED_FILE_READ) {
+        return fprintf(stderr, "%s\n", ped_recording_message(&file)), 1;
     }
-    while (refusal == PED_FILE_READ
-           && ped_file_next(&file, bytes, len, events, file.events, ids, file.ids, &at, end) == PED_LIMIT) {
-        end++;
+    struct count { uint64_t tid, event, samples; } *counts = calloc(file.count + 1, sizeof *counts), *it;
+    for (const struct ped_frame *frame; counts != NULL && (frame = ped_recording_next(&file)) != NULL;) {
+        for (it = counts; it->samples > 0 && (it->tid != frame->tid || it->event != file.entry->number); it++) {}
+        *it = (struct count){frame->tid, file.entry->number, it->samples + (frame->read == PERF_RECORD_SAMPLE)};
     }
-    ped_file_sort(entries, end - entries);
-    for (struct ped_frame frame; entry < end; entry++) {
-        ped_file_read(&file, bytes, len, events, file.events, entry, 1, &frame, 1);
-        if (frame.refusal == PED_ACCEPTED && frame.read == PERF_RECORD_SAMPLE) {
-            for (i = 0; counts[i].samples > 0 && (counts[i].tid != frame.tid || counts[i].event != entry->number);) {
-                i++;
-            }
-            counts[i] = (struct count){frame.tid, (unsigned)entry->number, counts[i].samples + 1};
-        }
+    for (it = counts; it != NULL && it->samples > 0; it++) {
+        printf("task %u, event %u: %u\n", (unsigned)it->tid, (unsigned)it->event, (unsigned)it->samples);
     }
-    for (i = 0; counts[i].samples > 0; i++) {
-        printf("task %u, event %u: %u\n", counts[i].tid, counts[i].event, counts[i].samples);
-    }
-    if (refusal != PED_FILE_READ) {
-        fprintf(stderr, "%s\n", ped_file_message(refusal));
-    }
-    return refusal != PED_FILE_READ;
+    return ped_recording_close(&file) != PED_FILE_READ || counts == NULL;
 }

@@ -47,9 +47,11 @@ cp "$here/../first/names.mjs" . && node names.mjs "$here/../../examples/recordin
 grep '^[0-9]* [0-9]* is ' "$here/../../crates/perf_uses/stdout" | cmp -s - "$work/names" && pass "run names.mjs" ||
     fail "names.mjs: $(head -n 3 "$work/names")"
 cp "$here/../first/samples.mjs" .
-for name in events pipe; do
+for name in events machine group killed big-endian pipe; do
+    expected=$name
+    [ $name != big-endian ] || expected=events
     node samples.mjs "$here/../../examples/$name.data" >"$work/samples" 2>&1
-    awk -f "$here/../../examples/count-samples.awk" "$here/../../examples/$name.time" | cmp -s - "$work/samples" &&
+    awk -f "$here/../../examples/count-samples.awk" "$here/../../examples/$expected.time" | cmp -s - "$work/samples" &&
         pass "run samples.mjs of $name.data" || fail "samples.mjs of $name.data: $(head -n 3 "$work/samples")"
 done
 found=$(find node_modules -name package.json | wc -l)

@@ -245,7 +245,6 @@ def _load() -> ctypes.PyDLL:
     library.ped_file_feature.argtypes = [pointer, size, ctypes.c_uint8, place]
     library.ped_event_name.argtypes = [place, pointer, size, place, size]
     library.ped_event_name.restype = size
-    library.ped_file_next.argtypes = [file, pointer, size, place, size, place, size, pointer, place]
     library.ped_file_sort.argtypes, library.ped_file_sort.restype = [place, size], None
     library.ped_file_read.argtypes = [file, pointer, size, place, size, place, size, place, size]
     library.ped_file_read.restype = size
@@ -719,14 +718,17 @@ class Recording:
     def _read_entries(self) -> tuple[bytearray, int, int]:
         """Returns the entries of all frames in the order of the file, how that ended, and where."""
         entries, at, chunk = bytearray(), ctypes.c_uint64(), ctypes.create_string_buffer(_ENTRY.size * 1024)
-        places = range(ctypes.addressof(chunk), ctypes.addressof(chunk) + len(chunk), _ENTRY.size)
-        words = [ctypes.byref(self._file), *self._bytes, self._events, self._file.events, self._ids, self._file.ids,
-                 ctypes.byref(at)]
-        call, how = functools.partial(_library.ped_file_next, *words), 0
+        first = ctypes.addressof(chunk)
+        # values of ctypes are passed as they are, by a function without types of its own, in half the time
+        places = [ctypes.c_void_p(it) for it in range(first, first + len(chunk), _ENTRY.size)]
+        size, (address, length) = ctypes.c_size_t, self._bytes
+        call = functools.partial(_library["ped_file_next"], ctypes.byref(self._file), ctypes.c_void_p(address),
+                                 size(length), self._events, size(self._file.events), self._ids, size(self._file.ids),
+                                 ctypes.byref(at))
+        how = 0
         while how == 0:
             count = 0
-            for place in places:
-                how = call(place)
+            for how in map(call, places):
                 if how:
                     break
                 count += 1

@@ -31,7 +31,7 @@ cargo build --offline --quiet --example perfrec
 if command -v python3 >/dev/null; then
     ../streams.py list 1 200 >"$CARGO_TARGET_DIR/list"
     PERF_EVENT_DATA_CASES=$CARGO_TARGET_DIR/list cargo test --offline --quiet --test replay other
+    ./upstream_tests.py ${upstream:+"$upstream"}
 else
-    echo "skipped: generated streams: no python3"
+    echo "skipped: generated streams${upstream:+, tests of the original}: no python3"
 fi
-./upstream_tests.py ${upstream:+"$upstream"}

@@ -291,8 +291,10 @@ def numbers_of_programs(page):
         expected = [line for line in summary if not line.startswith(("type ", "thread "))]
         same(summary_of(page), expected + sorted(f"{kind} {count}" for count, kind in (it.groups() for it in kinds)),
              f"the summary of {example.name}")
-        page.show("tab=flame&weight=samples")
-        same(page.save("#export-folded", ".folded"), page.printed("fold", file), f"the folded lines of {example.name}")
+        for weight in ("samples", "period"):
+            page.show(f"tab=flame&weight={weight}")
+            same(page.save("#export-folded", ".folded"), page.printed("fold", "--weight", weight, file),
+                 f"the folded {weight} of {example.name}")
     return None
 
 

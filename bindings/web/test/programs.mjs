@@ -60,8 +60,12 @@ function programLines(text) {
     return [...lines.filter((line) => !/^(type|thread) /.test(line)), ...types.sort()];
 }
 
-/** The text of a model's folded lines. */
-const foldedBy = async (model, weight) => model.call("export", { kind: "folded", filter: {}, weight });
+/** What folded lines count. */
+const WEIGHTS = ["samples", "period"];
+
+/** The texts of a model's folded lines, by each weight. */
+const foldedTexts = (model) => Promise.all(
+    WEIGHTS.map((weight) => model.call("export", { kind: "folded", filter: {}, weight })));
 
 /** What the model and the program have of bytes: each a text. Features are left out of damaged copies, as the program
  * refuses one alone, which the page leaves out. */
@@ -76,9 +80,8 @@ async function bothOf(bytes, hasHeader = true) {
     const isCompared = (line) => hasHeader || !line.startsWith("# ");
     const found = modelLines(overview).filter(isCompared);
     const expected = programLines(summary.text).filter(isCompared);
-    // (By periods they differ: of a sample without one the program adds 0, and the page that of its event.)
-    found.push(await foldedBy(model, "samples"));
-    expected.push(printed(bytes, "fold").text);
+    found.push(...await foldedTexts(model));
+    expected.push(...WEIGHTS.map((weight) => printed(bytes, "fold", "--weight", weight).text));
     return [found.join("\n"), expected.join("\n")];
 }
 
@@ -99,7 +102,7 @@ async function compareExamples() {
         const [stream, file] = await Promise.all([bytesIn("examples", `${name}.stream`), converted(name)].map(
             async (bytes) => {
                 const model = new Model();
-                return [...modelLines(await model.open(bytes)), await foldedBy(model, "samples")];
+                return [...modelLines(await model.open(bytes)), ...await foldedTexts(model)];
             }));
         same(`numbers of ${name}.stream as of that file`, stream, file);
     }
