@@ -49,8 +49,9 @@ pub(crate) fn spot_of<'p>(
 }
 
 // Whether two files have the same name, because they are named by the same.
-fn is_same_file(first: File<'_>, second: File<'_>) -> bool
-    ensures { OnTrue result (names.file_name first.entry ≡ names.file_name second.entry) }
+#[inline(always)]
+fn is_same_file(first: &File<'_>, second: &File<'_>) -> bool
+    ensures { OnTrue result (names.file_name first.now ≡ names.file_name second.now) }
 {
     match (first, second) {
         (File::Named(first), File::Named(second)) => first == second,
@@ -61,8 +62,9 @@ fn is_same_file(first: File<'_>, second: File<'_>) -> bool
 }
 
 // Whether two frames have the same name, because it is made of the same.
-fn is_same(first: Spot<'_>, second: Spot<'_>) -> bool
-    ensures { OnTrue result (spot_name first.entry ≡ spot_name second.entry) }
+#[inline(always)]
+fn is_same(first: &Spot<'_>, second: &Spot<'_>) -> bool
+    ensures { OnTrue result (spot_name first.now ≡ spot_name second.now) }
 {
     match (first, second) {
         (Spot::Kernel(first), Spot::Kernel(second)) => first == second,
@@ -153,13 +155,13 @@ impl<'p> KeptFrames<'p> {
     }
 
     // The frame that has the same name, if it is in one of the slots from the first one for it on.
-    fn find(&self, spot: Spot<'_>, first: usize) -> Option<&Kept<'p>>
-        ensures { IfSome result (λ kept. spot_name kept.now.spot ≡ spot_name spot.entry) }
+    fn find(&self, spot: &Spot<'_>, first: usize) -> Option<&Kept<'p>>
+        ensures { IfSome result (λ kept. spot_name kept.now.spot ≡ spot_name spot.now) }
     {
         let slots = self.slots.get(first..)?.first_chunk::<WAYS>()?;
         for index in slots {
             let kept = self.kept.get(*index)?;
-            if is_same(kept.spot, spot) {
+            if is_same(&kept.spot, spot) {
                 return Some(kept);
             }
         }
@@ -218,7 +220,7 @@ impl<'p> KeptFrames<'p> {
             ≡ text.old.items ++ frame_text (spot_name spot.entry)) }
     {
         let first = first_slot(spot);
-        match self.find(spot, first) {
+        match self.find(&spot, first) {
             Some(kept) => text.extend_from_slice(kept.stack.text()),
             None => self.push_new(text, spot, first),
         }
