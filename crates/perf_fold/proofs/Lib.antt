@@ -1,6 +1,7 @@
 pub mod PlainTexts
-pub mod NamesAlike
+pub mod LabelsAlike
 pub mod Moving
+pub mod Remembered
 pub mod Calling
 pub mod Found
 pub mod Adding

@@ -12,27 +12,29 @@ use Rattle.perf_file.specs.Views.{view}
 use Rattle.perf_file.specs.declared.events.Event.{Event}
 use Rattle.perf_file.specs.declared.opening.Recording.{Recording}
 use Rattle.perf_flame.specs.Lines.{Line}
-use Rattle.perf_walk.specs.Filters.{takes_any}
-use Rattle.perf_fold.specs.EventNames.{own_names}
+use Rattle.perf_fold.specs.EventLabels.{EventLabel, any_counts, own_labels}
 use Rattle.perf_fold.specs.Folds.{IsFoldOf}
-use Rattle.perf_fold.specs.Written.{AreLinesOf, LacksEvent, WritesFold}
+use Rattle.perf_fold.specs.Written.{AreLinesOf, LacksEvent, WritesFold, labels_in}
 use Rattle.perf_fold.specs.declared.error.FoldError.TheVariants as errors
 use Rattle.perf_fold.specs.declared.folding.Choice.{Choice}
-use Rattle.perf_fold.proofs.NamesAlike.{named_by}
+use Rattle.perf_fold.proofs.LabelsAlike.{labelled_by}
 
 -- each event has the name that the file states
 abbrev pub IsNamed : List ℕ → Recording → Type 0
 IsNamed bytes r = (n : ℕ) (d : Event) → n < length r.events.items → name_view (get_or r.events.items n d).name ≡ event_name bytes (view r) n (event_view (get_or r.events.items n d))
 
-pub lines_of : (how : Choice) (bytes : List ℕ) (r : Recording) (lines : List Line) → opened bytes ≡ Ok (view r) → IsNamed bytes r → takes_any how.filter (own_names r.events.items) ≡ true
-    → IsFoldOf how (own_names r.events.items) (view r) lines → AreLinesOf how bytes lines
-lines_of how bytes r lines found named any fold =
-    let same = named_by (event_name bytes (view r)) r.events.items named in
-    (view r, found, sym (ap (takes_any how.filter) same) ∙ any, subst (λ names. IsFoldOf how names (view r) lines) same fold)
+-- labels of the code are those that the file states
+same_labels : (how : Choice) (bytes : List ℕ) (r : Recording) (labels : List EventLabel) → IsNamed bytes r → labels ≡ own_labels how.filter r.events.items → labels ≡ labels_in how bytes (view r)
+same_labels how bytes r labels named own = own ∙ labelled_by how.filter (event_name bytes (view r)) r.events.items named
 
-pub lacks_event : (how : Choice) (bytes : List ℕ) (r : Recording) → opened bytes ≡ Ok (view r) → IsNamed bytes r → takes_any how.filter (own_names r.events.items) ≡ false → LacksEvent how bytes
-lacks_event how bytes r found named none =
-    (view r, found, sym (ap (takes_any how.filter) (named_by (event_name bytes (view r)) r.events.items named)) ∙ none)
+pub lines_of : (how : Choice) (bytes : List ℕ) (r : Recording) (labels : List EventLabel) (lines : List Line) → opened bytes ≡ Ok (view r) → IsNamed bytes r → labels ≡ own_labels how.filter r.events.items → any_counts labels ≡ true
+    → IsFoldOf how labels (view r) lines → AreLinesOf how bytes lines
+lines_of how bytes r labels lines found named own any fold =
+    let same = same_labels how bytes r labels named own in
+    (view r, found, sym (ap any_counts same) ∙ any, subst (λ (ls : List EventLabel). IsFoldOf how ls (view r) lines) same fold)
+
+pub lacks_event : (how : Choice) (bytes : List ℕ) (r : Recording) (labels : List EventLabel) → opened bytes ≡ Ok (view r) → IsNamed bytes r → labels ≡ own_labels how.filter r.events.items → any_counts labels ≡ false → LacksEvent how bytes
+lacks_event how bytes r labels found named own none = (view r, found, sym (ap any_counts (same_labels how bytes r labels named own)) ∙ none)
 
 -- there is no text of them, or memory ran out
 pub failed : (how : Choice) (form : Form) (bytes : List ℕ) (lines : List Line) (e : TextError) (old new : Option (List ℕ)) → AreLinesOf how bytes lines → WritesForm form lines (Err e) old new

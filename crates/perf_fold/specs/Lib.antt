@@ -1,4 +1,5 @@
-pub mod EventNames
+pub mod EventLabels
+pub mod Memories
 pub mod SampleStacks
 pub mod Folds
 pub mod Messages

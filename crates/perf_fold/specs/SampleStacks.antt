@@ -1,5 +1,5 @@
 -- The stack of a sample.
-use Rattle.std.specs.Prelude.{ℕ, ◌==◌, List, [], ◌∷◌, ◌++◌, length, nat_lt, get_or, map, if◌then◌else◌}
+use Rattle.std.specs.Prelude.{ℕ, ◌==◌, List, [], ◌∷◌, ◌++◌, length, nat_lt, map, if◌then◌else◌}
 use Rattle.std.specs.List.{flat_map}
 use Rattle.perf_base.specs.Attribute.{or_zero}
 use Rattle.perf_flame.specs.Stacks.{clean, frame_text}
@@ -13,6 +13,7 @@ use Rattle.perf_stacks.specs.declared.names.Frames.{Frames}
 use Rattle.perf_walk.specs.Calls.{call, calls_of}
 use Rattle.perf_walk.specs.declared.calls.Call.{Call}
 use Rattle.perf_walk.specs.declared.sampling.Sample.{Sample}
+use Rattle.perf_fold.specs.EventLabels.{EventLabel, label_at}
 
 -- these calls, or that one if there are none
 abbrev pub or_call : List Call → Call → List Call
@@ -31,11 +32,11 @@ abbrev pub calls_text : Frames → (pid : ℕ) → (known : List Change) → Lis
 calls_text frames pid known calls = flat_map (call_text frames pid known) calls
 
 -- the frame of an event, if the file has several
-abbrev pub event_text : (names : List (List ℕ)) → (event : ℕ) → List ℕ
-event_text names event = if nat_lt 1 (length names) then frame_text (get_or names event []) else []
+abbrev pub event_text : List EventLabel → (event : ℕ) → List ℕ
+event_text labels event = if nat_lt 1 (length labels) then frame_text (label_at labels event).name else []
 
 -- the stack of a sample with these calls, the outermost first: the name of its thread, its event if
 -- there are several, and its calls
-abbrev pub stack_text : Frames → (names : List (List ℕ)) → (event : ℕ) → (known : List Change) → Sample → List Call → List ℕ
-stack_text frames names event known s calls =
-    map clean (thread_name (name_of known s.tid)) ++ event_text names event ++ calls_text frames s.pid known calls
+abbrev pub stack_text : Frames → List EventLabel → (event : ℕ) → (known : List Change) → Sample → List Call → List ℕ
+stack_text frames labels event known s calls =
+    map clean (thread_name (name_of known s.tid)) ++ event_text labels event ++ calls_text frames s.pid known calls

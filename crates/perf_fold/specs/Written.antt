@@ -10,26 +10,25 @@ use Rattle.perf_file.specs.declared.error.OpenError.TheVariants as opens
 use Rattle.perf_folded.specs.Written.{WritesForm}
 use Rattle.perf_folded.specs.declared.error.TextError.TheVariants as texts
 use Rattle.perf_folded.specs.declared.form.Form.{Form}
-use Rattle.perf_walk.specs.Filters.{takes_any}
-use Rattle.perf_fold.specs.EventNames.{names_by}
+use Rattle.perf_fold.specs.EventLabels.{EventLabel, any_counts, labels_by}
 use Rattle.perf_fold.specs.Folds.{IsFoldOf}
 use Rattle.perf_fold.specs.declared.error.FoldError.{FoldError}
 use Rattle.perf_fold.specs.declared.error.FoldError.TheVariants as errors
 use Rattle.perf_fold.specs.declared.folding.Choice.{Choice}
 use Rattle.perf_folded.specs.declared.error.TextError.{TextError}
 
--- the names of the events of the bytes of a file, which contain that
-abbrev pub names_in : (bytes : List ℕ) → File → List (List ℕ)
-names_in bytes f = names_by (event_name bytes f) 0 f.events
+-- the labels of the events of the bytes of a file, which contain that
+abbrev pub labels_in : Choice → (bytes : List ℕ) → File → List EventLabel
+labels_in how bytes f = labels_by how.filter (event_name bytes f) 0 f.events
 
 -- these are the lines of what the bytes of a file contain, an event of which counts
 abbrev pub AreLinesOf : Choice → (bytes : List ℕ) → List Line → Type 0
 AreLinesOf how bytes lines =
-    (f : File) × (opened bytes ≡ Ok f) × (takes_any how.filter (names_in bytes f) ≡ true) × IsFoldOf how (names_in bytes f) f lines
+    (f : File) × (opened bytes ≡ Ok f) × (any_counts (labels_in how bytes f) ≡ true) × IsFoldOf how (labels_in how bytes f) f lines
 
 -- no event of a file counts
 abbrev pub LacksEvent : Choice → (bytes : List ℕ) → Type 0
-LacksEvent how bytes = (f : File) × (opened bytes ≡ Ok f) × (takes_any how.filter (names_in bytes f) ≡ false)
+LacksEvent how bytes = (f : File) × (opened bytes ≡ Ok f) × (any_counts (labels_in how bytes f) ≡ false)
 
 -- what was written of the lines of a file
 abbrev pub WritesLines : Choice → Form → (bytes : List ℕ) → Result Outcome TextError → (old new : Option (List ℕ)) → Type 0

@@ -3,7 +3,7 @@
 
 mod error;
 mod folding;
-mod names;
+mod labels;
 mod run;
 mod stack;
 

@@ -4,8 +4,8 @@ ghost use Rattle.std.specs.Prelude.{◌≡◌};
 ghost use Rattle.perf_fold.specs.Written as written;
 
 use crate::error::FoldError;
-use crate::folding::{Choice, fold};
-use crate::names::has_event;
+use crate::folding::{Choice, fold_labelled};
+use crate::labels::{any_counts, labels_of};
 use perf_file::{OpenError, Recording};
 use perf_folded::{Form, TextError, write_folded};
 use perf_lines::outcome::Outcome;
@@ -28,11 +28,11 @@ pub fn write_fold<W: Write>(
         (W.contents writer.old) (W.contents writer.new) }
 {
     let recording = Recording::open(alloc, bytes)?;
-    let known = has_event(alloc, &recording, &how.filter)?;
-    if !known {
+    let labels = labels_of(alloc, &how.filter, &recording)?;
+    if !any_counts(&labels) {
         return Err(FoldError::NoEvent);
     }
-    let folded = fold(alloc, &recording, how)?;
+    let folded = fold_labelled(alloc, &recording, how, &labels)?;
     match write_folded(alloc, &folded, form, writer) {
         Ok(outcome) => Ok(outcome),
         Err(error) => Err(FoldError::Text(error)),

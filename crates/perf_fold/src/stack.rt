@@ -4,19 +4,23 @@ ghost use Rattle.std.specs.Prelude.{◌≡◌, ◌++◌, ℕ, List, OnOk, Some, 
 ghost use Rattle.perf_base.specs.Dynamic.{order_of};
 ghost use Rattle.perf_file.specs.Views.{view};
 ghost use Rattle.perf_flame.specs.Stacks.{clean};
-ghost use Rattle.perf_history.specs.Histories.{name_of};
+ghost use Rattle.perf_history.specs.Histories.{name_of, place_of};
 ghost use Rattle.perf_history.specs.declared.changes.Change.{Change};
 ghost use Rattle.perf_sample_types.specs.Sample.{SampleValue};
 ghost use Rattle.perf_stacks.specs.Grown.{text_of};
-ghost use Rattle.perf_stacks.specs.Names.{thread_name};
+ghost use Rattle.perf_stacks.specs.Names.{frame_name, thread_name};
+ghost use Rattle.perf_stacks.specs.declared.names.Frames as named;
 ghost use Rattle.perf_walk.specs.Plain.{IsPast};
 ghost use Rattle.perf_walk.specs.Calls.{calls_of};
 ghost use Rattle.perf_walk.specs.Moments.{Moment};
 ghost use Rattle.perf_walk.specs.Samples.{sample_of, sample_view};
 ghost use Rattle.perf_walk.specs.Steps.{IsFrameOf};
-ghost use Rattle.perf_fold.specs.EventNames.{texts_of};
+ghost use Rattle.perf_fold.specs.EventLabels.{labels_view};
+ghost use Rattle.perf_fold.specs.Memories.{IsMemoryOf};
 ghost use Rattle.perf_fold.specs.SampleStacks as stack;
 
+use crate::labels::{Label, name_at};
+use perf_history::{Memory, Mode, Place};
 use perf_stacks::{Frames, Stacks};
 use perf_walk::{Call, Found, Sample, Walk, push_calls};
 use std::alloc::AllocError;
@@ -71,7 +75,7 @@ pub(crate) fn put_calls(
 }
 
 // Begins a stack by the name of a thread.
-fn start(stacks: &mut Stacks, walk: &Walk<'_, '_>, tid: u32) -> Result<(), AllocError>
+fn start(stacks: &mut Stacks<'_>, walk: &Walk<'_, '_>, tid: u32) -> Result<(), AllocError>
     ensures { (known : List Change) → IsPast walk.now.history known →
         OnOk result (text_of stacks.new ≡ map clean (thread_name (name_of known tid))) }
 {
@@ -79,59 +83,73 @@ fn start(stacks: &mut Stacks, walk: &Walk<'_, '_>, tid: u32) -> Result<(), Alloc
 }
 
 // Appends the frame of an event, if there are several.
-fn push_event(stacks: &mut Stacks, names: &[String], event: usize) -> Result<(), AllocError>
+fn push_event(stacks: &mut Stacks<'_>, labels: &[Label], event: usize) -> Result<(), AllocError>
     ensures { OnOk result (text_of stacks.new
-        ≡ text_of stacks.old ++ stack.event_text (texts_of names.now) event) }
+        ≡ text_of stacks.old ++ stack.event_text (labels_view labels.now) event) }
 {
-    if names.len() < 2 {
+    if labels.len() < 2 {
         return Ok(());
     }
-    match names.get(event) {
-        Some(name) => stacks.push_named(name.as_bytes()),
-        None => stacks.push_named(b""),
+    stacks.push_named(name_at(labels, event))
+}
+
+// The memory in which a process runs code of its own, by what is known in a walk.
+fn memory_of<'h, 'p>(walk: &'h Walk<'_, 'p>, pid: u32) -> Memory<'h, 'p>
+    ensures { (known : List Change) → IsPast walk.now.history known → IsMemoryOf pid known result }
+{
+    walk.history().memory(pid, Mode::User)
+}
+
+// What is mapped at an address, unless the name of its frame does not depend on that.
+fn place_at<'p>(memory: &Memory<'_, 'p>, mode: Mode, address: u64) -> Option<Place<'p>>
+    ensures { (frames : named.Frames) (pid : ℕ) (known : List Change) → IsMemoryOf pid known memory.now →
+        frame_name frames mode address result
+        ≡ frame_name frames mode address (place_of known pid mode address) }
+{
+    match mode {
+        Mode::User => memory.place(address),
+        _ => None,
     }
 }
 
 // Appends the frame of a call in a process.
-fn push_call(
-    stacks: &mut Stacks,
-    walk: &Walk<'_, '_>,
+fn push_call<'p>(
+    stacks: &mut Stacks<'p>,
+    memory: &Memory<'_, 'p>,
     frames: Frames,
-    pid: u32,
     call: Call,
 ) -> Result<(), AllocError>
-    ensures { (known : List Change) → IsPast walk.now.history known →
+    ensures { (pid : ℕ) (known : List Change) → IsMemoryOf pid known memory.now →
         OnOk result (text_of stacks.new
         ≡ text_of stacks.old ++ stack.call_text frames pid known call) }
 {
-    let place = walk.place(pid, call.mode, call.address);
+    let place = place_at(memory, call.mode, call.address);
     stacks.push(frames, call.mode, call.address, place)
 }
 
 // Appends the frames of calls in a process.
-fn push_each(
-    stacks: &mut Stacks,
-    walk: &Walk<'_, '_>,
+fn push_each<'p>(
+    stacks: &mut Stacks<'p>,
+    memory: &Memory<'_, 'p>,
     frames: Frames,
-    pid: u32,
     calls: &[Call],
 ) -> Result<(), AllocError>
-    ensures { (known : List Change) → IsPast walk.now.history known →
+    ensures { (pid : ℕ) (known : List Change) → IsMemoryOf pid known memory.now →
         OnOk result (text_of stacks.new
         ≡ text_of stacks.old ++ stack.calls_text frames pid known calls.now) }
 {
     for call in calls {
-        push_call(stacks, walk, frames, pid, *call)?;
+        push_call(stacks, memory, frames, *call)?;
     }
     Ok(())
 }
 
 // Makes the stack of a sample with these calls, of the event with that number, by what is known in a
 // walk.
-pub(crate) fn put_stack(
-    stacks: &mut Stacks,
-    walk: &Walk<'_, '_>,
-    names: &[String],
+pub(crate) fn put_stack<'p>(
+    stacks: &mut Stacks<'p>,
+    walk: &Walk<'_, 'p>,
+    labels: &[Label],
     event: usize,
     frames: Frames,
     sample: &Sample,
@@ -139,9 +157,10 @@ pub(crate) fn put_stack(
 ) -> Result<(), AllocError>
     ensures { (known : List Change) → IsPast walk.now.history known →
         OnOk result (text_of stacks.new
-        ≡ stack.stack_text frames (texts_of names.now) event known sample.now calls.now) }
+        ≡ stack.stack_text frames (labels_view labels.now) event known sample.now calls.now) }
 {
     start(stacks, walk, sample.tid)?;
-    push_event(stacks, names, event)?;
-    push_each(stacks, walk, frames, sample.pid, calls)
+    push_event(stacks, labels, event)?;
+    let memory = memory_of(walk, sample.pid);
+    push_each(stacks, &memory, frames, calls)
 }

@@ -2,6 +2,7 @@
 //! of its call chain.
 #![tactic(auto)]
 
+mod kept;
 mod names;
 mod stacks;
 

@@ -3,7 +3,7 @@
 ghost use Rattle.std.specs.Prelude.{◌≡◌, ◌++◌, ◌≤◌, OnOk, length};
 ghost use Rattle.perf_stacks.specs.Names as names;
 
-use perf_history::{File, Mode, Name, Place};
+use perf_history::{File, Name};
 use perf_text::strip::Strip;
 use std::alloc::AllocError;
 
@@ -69,7 +69,7 @@ fn push_perf_map(text: &mut Vec<u8>, pid: u32) -> Result<(), AllocError>
 }
 
 // Appends the name of a file.
-fn push_file(text: &mut Vec<u8>, file: File<'_>) -> Result<(), AllocError>
+pub(crate) fn push_file(text: &mut Vec<u8>, file: File<'_>) -> Result<(), AllocError>
     ensures { OnOk result (text.new.items ≡ text.old.items ++ names.file_name file.entry) }
 {
     match file {
@@ -80,7 +80,7 @@ fn push_file(text: &mut Vec<u8>, file: File<'_>) -> Result<(), AllocError>
 }
 
 // Appends a plus and an offset.
-fn push_offset(text: &mut Vec<u8>, offset: u64) -> Result<(), AllocError>
+pub(crate) fn push_offset(text: &mut Vec<u8>, offset: u64) -> Result<(), AllocError>
     ensures { OnOk result (text.new.items ≡ text.old.items ++ names.offset_text offset) }
 {
     let mut strip = Strip::new();
@@ -89,54 +89,12 @@ fn push_offset(text: &mut Vec<u8>, offset: u64) -> Result<(), AllocError>
     text.extend_from_slice(strip.text().as_bytes())
 }
 
-// Appends the name of a place.
-fn push_place(text: &mut Vec<u8>, frames: Frames, place: Place<'_>) -> Result<(), AllocError>
-    ensures { OnOk result (text.new.items ≡ text.old.items ++ names.place_name frames place.entry) }
-{
-    push_file(text, place.file)?;
-    match frames {
-        Frames::Offsets => push_offset(text, place.offset),
-        Frames::Files => Ok(()),
-    }
-}
-
 // Appends the name of an address of the kernel.
-fn push_kernel(text: &mut Vec<u8>, address: u64) -> Result<(), AllocError>
+pub(crate) fn push_kernel(text: &mut Vec<u8>, address: u64) -> Result<(), AllocError>
     ensures { OnOk result (text.new.items ≡ text.old.items ++ names.kernel_name address) }
 {
     let mut strip = Strip::new();
     strip.put("_[k]");
     strip.put_hex(address);
     text.extend_from_slice(strip.text().as_bytes())
-}
-
-// Appends the name of an address outside the kernel, by what is mapped there.
-fn push_mapped(
-    text: &mut Vec<u8>,
-    frames: Frames,
-    place: Option<Place<'_>>,
-) -> Result<(), AllocError>
-    ensures { OnOk result (text.new.items ≡ text.old.items ++ names.mapped_name frames place.entry) }
-{
-    match place {
-        Some(place) => push_place(text, frames, place),
-        None => text.extend_from_slice(b"[unknown]"),
-    }
-}
-
-// Appends the name of an address, by what is mapped there.
-pub(crate) fn push_frame(
-    text: &mut Vec<u8>,
-    frames: Frames,
-    mode: Mode,
-    address: u64,
-    place: Option<Place<'_>>,
-) -> Result<(), AllocError>
-    ensures { OnOk result (text.new.items
-        ≡ text.old.items ++ names.frame_name frames mode address place.entry) }
-{
-    match mode {
-        Mode::Kernel => push_kernel(text, address),
-        Mode::User | Mode::Other => push_mapped(text, frames, place),
-    }
 }

@@ -4,7 +4,8 @@ ghost use Rattle.std.specs.Prelude.{◌≡◌, ◌++◌, [], OnOk, map};
 ghost use Rattle.perf_flame.specs.Stacks.{clean, frame_text};
 ghost use Rattle.perf_stacks.specs.Names as names;
 
-use crate::names::{Frames, push_frame, push_thread};
+use crate::kept::{KeptFrames, spot_of};
+use crate::names::{Frames, push_thread};
 use perf_flame::stack::Stack;
 use perf_history::{Mode, Name, Place};
 use std::alloc::{AllocError, Global};
@@ -15,21 +16,25 @@ use std::alloc::{AllocError, Global};
 /// A call fails only if memory runs out, and then the text is of no use before the next
 /// [`Stacks::start`].
 #[derive(Drop)]
-pub struct Stacks {
-    stack: Stack,
+pub struct Stacks<'p> {
+    text: Vec<u8>,
     name: Vec<u8>,
+    stack: Stack,
+    kept: KeptFrames<'p>,
 }
 
-impl Stacks {
+impl<'p> Stacks<'p> {
     ghost use Rattle.perf_stacks.specs.Grown.{text_of};
 
     /// The stack of a thread without a name.
-    pub fn new(alloc: Global) -> Stacks
+    pub fn new(alloc: Global) -> Stacks<'p>
         ensures { text_of result ≡ [] }
     {
         Stacks {
-            stack: Stack::new(alloc),
+            text: Vec::new(alloc),
             name: Vec::new(alloc),
+            stack: Stack::new(alloc),
+            kept: KeptFrames::new(alloc),
         }
     }
 
@@ -39,14 +44,18 @@ impl Stacks {
     {
         self.name.clear();
         push_thread(&mut self.name, thread)?;
-        self.stack.start(&self.name)
+        self.stack.start(&self.name)?;
+        self.text.clear();
+        self.text.extend_from_slice(self.stack.text())
     }
 
     /// Appends a frame that has a name, such as that of an event.
     pub fn push_named(&mut self, name: &[u8]) -> Result<(), AllocError>
         ensures { OnOk result (text_of self.new ≡ text_of self.old ++ frame_text name.now) }
     {
-        self.stack.push_frame(name)
+        self.stack.start(b"")?;
+        self.stack.push_frame(name)?;
+        self.text.extend_from_slice(self.stack.text())
     }
 
     /// Appends the frame of an address at which code runs in this mode: the name of the file that is
@@ -57,20 +66,19 @@ impl Stacks {
         frames: Frames,
         mode: Mode,
         address: u64,
-        place: Option<Place<'_>>,
+        place: Option<Place<'p>>,
     ) -> Result<(), AllocError>
         ensures { OnOk result (text_of self.new ≡ text_of self.old
             ++ frame_text (names.frame_name frames mode address place.entry)) }
     {
-        self.name.clear();
-        push_frame(&mut self.name, frames, mode, address, place)?;
-        self.stack.push_frame(&self.name)
+        self.kept
+            .push(&mut self.text, spot_of(frames, mode, address, place))
     }
 
     /// The text so far.
     pub fn text(&self) -> &[u8]
         ensures { result.now ≡ text_of self.now }
     {
-        self.stack.text()
+        &self.text
     }
 }

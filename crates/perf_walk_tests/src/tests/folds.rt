@@ -1,6 +1,6 @@
 //! The folded stacks of the recording, computed by hand.
 
-use crate::tests::recording::recording;
+use crate::tests::recording::{WITHOUT_PERIODS, bytes_of, recording};
 use perf_file::Recording;
 use perf_fold::{Choice, FoldError, Weight, fold, status_after, write_fold};
 use perf_folded::Form;
@@ -56,6 +56,18 @@ fn periods_of_files(rt: HostRuntime) {
     let (_, text) = written(rt.alloc(), usize::MAX, PERIODS);
     let want = b"ls;[unknown] 13\nls;ls 12\nsh;ls;sh;0xffffffff81000010_[k] 11\n";
     assert_eq!(rt; text.as_slice(), want.as_slice());
+}
+
+#[test]
+fn periods_of_the_event(rt: HostRuntime) {
+    let alloc = rt.alloc();
+    let mut text = Vec::new(alloc);
+    let ended = match bytes_of(alloc, &WITHOUT_PERIODS) {
+        Ok(bytes) => write_fold(alloc, &bytes, PERIODS, Form::Lines, &mut text),
+        Err(error) => Err(error.into()),
+    };
+    assert_eq!(rt; status_after(&ended), 0);
+    assert_eq!(rt; text.as_slice(), b":8;[unknown] 8000\n".as_slice());
 }
 
 // What the recording is folded to with a filter: thread 8 is `sh` at time 30, `ls` at time 50, and then

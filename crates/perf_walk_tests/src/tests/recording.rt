@@ -135,13 +135,56 @@ pub const RECORDING: [u64; WORDS] = [
     90,
 ];
 
-/// Its bytes.
-pub fn recording(alloc: Global) -> Result<Vec<u8>, AllocError> {
+/// A file of one event with the sample type IP, TID and TIME, and two samples of thread 8: perf prints
+/// the period of the event, 4000, for each.
+pub const WITHOUT_PERIODS: [u64; 31] = [
+    // the head, the attribute, and where its ids are, as above
+    0x3245_4c49_4652_4550,
+    104,
+    80,
+    104,
+    80,
+    184,
+    64,
+    0,
+    0,
+    0,
+    0,
+    0,
+    0,
+    1 + (64 << 32),
+    0,
+    4000,
+    7,
+    0,
+    1 << 18,
+    0,
+    0,
+    0,
+    0,
+    // the samples: address, task, time
+    9 + (2 << 32) + (32 << 48),
+    0x1010,
+    8 + (8 << 32),
+    30,
+    9 + (2 << 32) + (32 << 48),
+    0x1010,
+    8 + (8 << 32),
+    40,
+];
+
+/// The bytes of such a file.
+pub fn bytes_of(alloc: Global, words: &[u64]) -> Result<Vec<u8>, AllocError> {
     let mut bytes = Vec::new(alloc);
-    for word in RECORDING {
+    for word in words {
         for byte in word.to_le_bytes() {
             bytes.push(byte)?;
         }
     }
     Ok(bytes)
+}
+
+/// Those of the recording.
+pub fn recording(alloc: Global) -> Result<Vec<u8>, AllocError> {
+    bytes_of(alloc, &RECORDING)
 }

@@ -1,12 +1,12 @@
 use Rattle.std.proofs.Common.{[], List, ap, ◌∙◌, arith}
-use Rattle.std.specs.Global.{Vec, Global}
-use Rattle.std.specs.declared.string.String.{String}
+use Rattle.std.specs.Borrow.{Bor}
 use Rattle.perf_base.specs.Dynamic.{order_of}
 use Rattle.perf_file.specs.Views.{view}
 use Rattle.perf_flame.specs.FoldedLines.{folded_lines}
 use Rattle.perf_flame.specs.Lines.{Line}
 use Rattle.perf_walk.specs.Moments.{moments}
-use Rattle.perf_fold.specs.EventNames.{own_names, texts_of}
+use Rattle.perf_fold.specs.EventLabels.{labels_view}
+use Rattle.perf_fold.specs.declared.labels.Label.{Label}
 use Rattle.perf_fold.specs.Folds.{add_moments}
 use Rattle.perf_fold.proofs.Moving.{moved, all_moved}
 use Rattle.perf_fold.proofs.folding.fold_entries.Goals as goal
@@ -14,31 +14,31 @@ use Rattle.perf_fold.proofs.folding.fold_entries.Goals as goal
 pub loop-entry-init : goal.loop-entry-init
 loop-entry-init c =
     let f = view c.args.recording.now in
-    let names = own_names c.args.recording.now.events.items in
+    let labels = labels_view c.args.labels.now in
     record {
       recording = c.new-walk.ensures.recording;
       how = c.new-folder.ensures.how;
-      names = ap (λ (v : Vec (String Global)). texts_of v.items) c.new-folder.ensures.names ∙ c.in_ok-names.ensures;
-      lines = ([], c.new-walk.ensures.known, ap (λ (ls : List Line). add_moments c.args.how names (order_of f.order) ls (moments f c.args.entries.now [])) c.new-folder.ensures.lines);
+      labels = c.new-folder.ensures.labels;
+      lines = ([], c.new-walk.ensures.known, ap (λ (ls : List Line). add_moments c.args.how labels (order_of f.order) ls (moments f c.args.entries.now [])) c.new-folder.ensures.lines);
     }
 
 pub loop-entry-preserved : goal.loop-entry-preserved
 loop-entry-preserved c =
     let f = view c.args.recording.now in
-    let names = own_names c.args.recording.now.events.items in
+    let labels = labels_view c.args.labels.now in
     let before = c.loop-entry.invariant in
     record {
       recording = c.go_on.ensures.recording ∙ before.recording;
       how = c.go_on.ensures.how ∙ before.how;
-      names = ap (λ (v : Vec (String Global)). texts_of v.items) c.go_on.ensures.names ∙ before.names;
+      labels = ap (λ (b : Bor (List Label)). b.now) c.go_on.ensures.labels ∙ before.labels;
       lines =
-          moved c.args.how c.loop-entry.folder.how names (texts_of c.loop-entry.folder.names.items) f (view c.loop-entry.walk.recording.now) c.args.entries.now c.loop-entry.entry-index _
-          before.lines.0 (folded_lines c.loop-entry.folder.folded) (folded_lines c.go_on.new.self.folded) c.go_on.new.walk.history before.how before.names (ap view before.recording)
+          moved c.args.how c.loop-entry.folder.how labels (labels_view c.loop-entry.folder.labels.now) f (view c.loop-entry.walk.recording.now) c.args.entries.now c.loop-entry.entry-index _
+          before.lines.0 (folded_lines c.loop-entry.folder.folded) (folded_lines c.go_on.new.self.folded) c.go_on.new.walk.history before.how (ap (λ (ls : List Label). labels_view ls) before.labels) (ap view before.recording)
           (omega (arith, c.loop-entry-test.true)) before.lines.2 (c.in_ok-go_on.ensures.gone before.lines.0 before.lines.1);
     }
 
 pub returns : goal.returns
 returns c =
     let lines = c.loop-entry.invariant.lines in
-    all_moved c.args.how (own_names c.args.recording.now.events.items) (view c.args.recording.now) c.args.entries.now c.loop-entry.entry-index lines.0 (folded_lines c.loop-entry.folder.folded)
+    all_moved c.args.how (labels_view c.args.labels.now) (view c.args.recording.now) c.args.entries.now c.loop-entry.entry-index lines.0 (folded_lines c.loop-entry.folder.folded)
     (omega (arith, c.loop-entry-test.false)) lines.2

@@ -3,7 +3,7 @@ use Rattle.perf_file.specs.Views.{view}
 use Rattle.perf_flame.specs.FoldedLines.{folded_lines}
 use Rattle.perf_history.specs.declared.changes.Change.{Change}
 use Rattle.perf_walk.specs.Plain.{IsPast}
-use Rattle.perf_fold.specs.EventNames.{own_names, texts_of}
+use Rattle.perf_fold.specs.EventLabels.{labels_view}
 use Rattle.perf_fold.proofs.Moving.{AreSoFar}
 use Rattle.perf_fold.proofs.folding.fold_entries.Given as goal
 
@@ -12,6 +12,6 @@ abbrev pub invariant-loop-entry : goal.invariant-loop-entry
 invariant-loop-entry l = record {
   recording : l.walk.recording.now ≡ l.recording;
   how : l.folder.how ≡ l.fn.how;
-  names : texts_of l.folder.names.items ≡ own_names l.recording.events.items;
-  lines : (known : List Change) × IsPast l.walk.history known × AreSoFar l.fn.how (own_names l.recording.events.items) (view l.recording) l.entries (drop l.entry-index l.entries) known (folded_lines l.folder.folded);
+  labels : l.folder.labels.now ≡ l.fn.labels;
+  lines : (known : List Change) × IsPast l.walk.history known × AreSoFar l.fn.how (labels_view l.labels) (view l.recording) l.entries (drop l.entry-index l.entries) known (folded_lines l.folder.folded);
 }

@@ -1,12 +1,12 @@
-use Rattle.std.proofs.Common.{◌≡◌, ◌++◌, take}
+use Rattle.std.proofs.Common.{◌≡◌, ◌++◌, ℕ, take}
 use Rattle.perf_stacks.specs.Grown.{text_of}
 use Rattle.perf_history.specs.declared.changes.Change.{Change}
-use Rattle.perf_walk.specs.Plain.{IsPast}
 use Rattle.std.specs.Prelude.{List}
+use Rattle.perf_fold.specs.Memories.{IsMemoryOf}
 use Rattle.perf_fold.specs.SampleStacks.{calls_text}
 use Rattle.perf_fold.proofs.stack.push_each.Given as goal
 
 -- the frames of the calls so far
 abbrev pub invariant-loop-call : goal.invariant-loop-call
 invariant-loop-call l =
-    (known : List Change) → IsPast l.walk.history known → text_of l.stacks ≡ text_of l.initial.stacks ++ calls_text l.frames l.pid known (take l.call-index l.calls)
+    (pid : ℕ) (known : List Change) → IsMemoryOf pid known l.memory → text_of l.stacks ≡ text_of l.initial.stacks ++ calls_text l.frames pid known (take l.call-index l.calls)

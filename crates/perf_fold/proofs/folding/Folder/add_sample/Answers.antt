@@ -1,11 +1,9 @@
 use Rattle.std.proofs.Common.{ℕ, List, reverse, ap, ◌∙◌}
-use Rattle.std.specs.Global.{Global}
-use Rattle.std.specs.declared.string.String.{String}
 use Rattle.std.proofs.lemmas.Result.{on_ok_weaker}
 use Rattle.perf_flame.specs.FoldedLines.{folded_lines}
 use Rattle.perf_flame.specs.Lines.{add_count}
 use Rattle.perf_walk.specs.declared.calls.Call.{Call}
-use Rattle.perf_fold.specs.EventNames.{texts_of}
+use Rattle.perf_fold.specs.EventLabels.{labels_view}
 use Rattle.perf_fold.specs.SampleStacks.{sample_calls, stack_text}
 use Rattle.perf_fold.proofs.folding.Folder.add_sample.Goals as goal
 
@@ -14,13 +12,12 @@ returns-clause-added c = λ m s is past sampled same.
     let own = c.args.self.now in
     let sample = c.args.sample.now in
     let frames = own.how.frames in
-    let names = texts_of own.names.items in
+    let labels = labels_view own.labels.now in
     let calls = c.in_ok-put_calls.ensures m s is sampled same in
-    let text : List ℕ = stack_text frames names m.event m.known sample (reverse (sample_calls c.args.walk.now.frame.misc s)) in
+    let text : List ℕ = stack_text frames labels m.event m.known sample (reverse (sample_calls c.args.walk.now.frame.misc s)) in
     let stack =
     c.text.ensures ∙ c.in_ok-put_stack.ensures m.known past
-    ∙ ap (λ (ns : List (String Global)). stack_text frames (texts_of ns) c.args.found.now.event m.known sample c.deref-2.result.now) c.deref.ensures.value
-    ∙ ap (λ (event : ℕ). stack_text frames names event m.known sample c.deref-2.result.now) is.event
-    ∙ ap (λ (xs : List Call). stack_text frames names m.event m.known sample xs) (c.deref-2.ensures.value ∙ calls) in
-    let line = ap (λ (t : List ℕ). add_count (folded_lines own.folded) t c.weight_of-weight.result) stack in
-    on_ok_weaker c.add.result (λ e. e ∙ line ∙ ap (λ (n : ℕ). add_count (folded_lines own.folded) text n) c.weight_of-weight.ensures) c.add.ensures.added
+    ∙ ap (λ (event : ℕ). stack_text frames labels event m.known sample c.deref.result.now) is.event
+    ∙ ap (λ (xs : List Call). stack_text frames labels m.event m.known sample xs) (c.deref.ensures.value ∙ calls) in
+    let line = ap (λ (t : List ℕ). add_count (folded_lines own.folded) t c.weight-weight.result) stack in
+    on_ok_weaker c.add.result (λ e. e ∙ line ∙ ap (λ (n : ℕ). add_count (folded_lines own.folded) text n) (c.weight-weight.ensures m s is sampled)) c.add.ensures.added

@@ -6,7 +6,7 @@ use Rattle.perf_walk.specs.Moments.{moment_at, known_after}
 use Rattle.perf_walk.specs.Plain.{IsPast}
 use Rattle.perf_walk.specs.Steps.{Finds}
 use Rattle.perf_walk.specs.declared.walk.Found.{Found}
-use Rattle.perf_fold.specs.EventNames.{texts_of}
+use Rattle.perf_fold.specs.EventLabels.{labels_view}
 use Rattle.perf_fold.proofs.Adding.{gone, gone_nowhere}
 use Rattle.perf_fold.proofs.folding.Folder.go_on.Goals as goal
 
@@ -17,7 +17,7 @@ returns-in-Some-clause-gone c = λ known past.
     let e = c.args.entry.now in
     let after = c.step.new.self in
     let step = subst (λ (x : Option Found). Finds f (moment_at f e known) x after.frame × IsPast after.history (known_after f e known)) c.in-Some.is (c.in_ok-found.ensures.steps known past) in
-    gone c.add.result f (view after.recording.now) e known c.in-Some.found after.frame after.history own.how (texts_of own.names.items) (folded_lines own.folded) (folded_lines c.add.new.self.folded)
+    gone c.add.result f (view after.recording.now) e known c.in-Some.found after.frame after.history own.how (labels_view own.labels.now) (folded_lines own.folded) (folded_lines c.add.new.self.folded)
     (ap view c.in_ok-found.ensures.recording) step (λ m is then. c.add.ensures.added m is then)
 
 pub returns-in-None-clause-gone : goal.returns-in-None-clause-gone
@@ -27,4 +27,4 @@ returns-in-None-clause-gone c = λ known past.
     let e = c.args.entry.now in
     let after = c.step.new.self in
     let step = subst (λ (x : Option Found). Finds f (moment_at f e known) x after.frame × IsPast after.history (known_after f e known)) c.in-None.is (c.in_ok-found.ensures.steps known past) in
-    gone_nowhere f e known after.frame after.history own.how (texts_of own.names.items) (folded_lines own.folded) step
+    gone_nowhere f e known after.frame after.history own.how (labels_view own.labels.now) (folded_lines own.folded) step
