@@ -142,6 +142,72 @@ for words in '--event cycles' '--time 5' '--time 2,1' '--time 1,x' '--time 1.012
         check 2 /dev/null $command $words "$file"
     done
 done
+# The fields that are chosen, and the lines of other records, as perf 6.1 prints them: lines FILE FIELDS [WORD ..]
+lines() {
+    perf script --ns -i "$1" -F "$2" >"$work/output" 2>/dev/null
+    check 0 "$work/output" script -F "$2" "$1"
+    perf script --ns -i "$1" -F "$2" "${records[@]}" >"$work/output" 2>/dev/null
+    check 0 "$work/output" script --side-band -F "$2" "$1"
+}
+records=(--show-task-events --show-mmap-events --show-lost-events --show-switch-events --show-bpf-events --show-cgroup-events)
+default=comm,pid,tid,time,period,event,ip,dso
+if command -v perf >/dev/null && perf script --ns -i "$file" -F $default 2>/dev/null | cmp -s - "$examples/events.script"; then
+    for fields in $default comm,time,event dso,ip comm,ip time tid,ip,period pid event,comm,pid,dso; do
+        for name in events machine group; do
+            lines "$examples/$name.data" $fields
+        done
+    done
+    for fields in cpu,$default tid,cpu,ip cpu,pid,event; do
+        lines "$examples/machine.data" $fields
+    done
+    if command -v python3 >/dev/null; then
+        # An event of software with TID, TIME and CPU, and a record of each kind that has a line.
+        python3 - >"$work/side.data" <<'END'
+import struct, sys
+attr = struct.pack("<IIQQQQQ", 1, 64, 0, 1000, 1 | 2 | 4 | 128, 0, 1 << 18) + bytes(16)
+ident = lambda pid, tid, time: struct.pack("<IIQII", pid, tid, time, 3, 0)
+padded = lambda text: text.encode() + bytes(8 - len(text) % 8)
+def record(type_, misc, body, who):
+    body += ident(*who)
+    return struct.pack("<IHH", type_, misc, 8 + len(body)) + body
+mmap = struct.pack("<IIQQQ", 7, 8, 0x1000, 0x2000, 0)
+frames = b"".join([
+    record(3, 1 << 13, struct.pack("<II", 7, 7) + padded("sh"), (7, 7, 1_000_000_001)),
+    record(7, 0, struct.pack("<IIIIQ", 7, 7, 8, 7, 1_000_000_002), (7, 7, 1_000_000_002)),
+    record(1, 1 << 13, mmap + padded("//anon"), (7, 8, 1_000_000_003)),
+    record(10, 2, mmap + struct.pack("<IIQQII", 8, 17, 99, 5, 5, 1) + padded("/bin/sh"), (7, 8, 1_000_000_004)),
+    record(10, 2 | 1 << 14, mmap + b"\x14\0\0\0" + bytes(range(0, 200, 10)) + struct.pack("<II", 3, 2) + padded("/bin/id"), (7, 8, 1_000_000_005)),
+    record(2, 0, struct.pack("<QQ", 0, 12345), (7, 8, 1_000_000_006)),
+    record(14, 1 << 13, b"", (7, 8, 1_000_000_007)),
+    record(14, 0, b"", (0, 0, 1_000_000_008)),
+    record(15, 3 << 13, struct.pack("<II", 9, 10), (7, 8, 1_000_000_009)),
+    record(15, 0, struct.pack("<ii", -1, -1), (9, 10, 1_000_000_010)),
+    record(17, 0, struct.pack("<QIHH", 0xffffffffc0000000, 64, 1, 0) + padded("bpf_prog_1"), (7, 7, 1_000_000_011)),
+    record(18, 0, struct.pack("<HHI", 1, 0, 33) + bytes(8), (7, 7, 1_000_000_012)),
+    record(19, 0, struct.pack("<Q", 7) + padded("/user.slice"), (7, 7, 1_000_000_013)),
+    struct.pack("<IHHQIIQII", 9, 2, 40, 0x1010, 7, 8, 1_000_000_014, 3, 0),
+    record(4, 0, struct.pack("<IIIIQ", 7, 7, 8, 7, 1_000_000_015), (7, 8, 1_000_000_015)),
+])
+head = 104
+data = head + len(attr) + 16
+sys.stdout.buffer.write(b"PERFILE2" + struct.pack("<QQQQQQQQQ", head, len(attr) + 16, head, len(attr) + 16, data, len(frames), 0, 0, 0) + bytes(24) + attr + struct.pack("<QQ", 0, 0) + frames)
+END
+        lines "$work/side.data" cpu,pid,tid,comm,time,ip,dso
+        lines "$work/side.data" comm,period
+    else
+        echo "skipped: lines of other records: no python3"
+    fi
+else
+    echo "skipped: fields and lines of other records: no perf 6.1"
+fi
+for fields in sym comm,sym comm, ''; do
+    check 2 /dev/null script -F "$fields" "$file"
+    [ "$(wc -l <"$work/found.err")" = 1 ] && grep -q 'comm,pid,tid,cpu,time,period,event,ip,dso$' "$work/found.err" || {
+        failed=$((failed + 1))
+        echo "FAILED: the error of script -F $fields"
+        cat "$work/found.err"
+    }
+done
 # A sample of a guest has no line, as for perf: the third is made one by its misc.
 cp "$examples/machine.data" "$work/damaged"
 at=$(grep ' Sample ' "$examples/machine.time" | sed -n 3p | cut -d ' ' -f 2)

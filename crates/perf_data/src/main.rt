@@ -6,7 +6,8 @@
 //! after its number the offset of the frame in the file and its event. `perf_data summary FILE` prints
 //! what is counted: a line of all frames, one for each event, each thread and each type of record, after
 //! lines of what perf states about the machine and the command; with `--json` as one line of JSON.
-//! `perf_data script FILE` prints the samples by time, as `perf script` does.
+//! `perf_data script FILE` prints the samples by time, as `perf script` does, with `-F` only some fields,
+//! and with `--side-band` also lines of the other records.
 //!
 //! `perf_data fold FILE` prints the stacks of samples, and how many there are of each, with
 //! `--weight period` the sum of their periods, and with `--frames file` without offsets.

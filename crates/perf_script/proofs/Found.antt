@@ -23,9 +23,11 @@ use Rattle.perf_script.specs.Counters.{readings_of, counters_text, counter_text,
 use Rattle.perf_script.specs.Ids.{finds}
 use Rattle.perf_script.specs.Labels.{EventLabel, label_view}
 use Rattle.perf_script.specs.Moved.{moved}
+use Rattle.perf_script.specs.Heads.{text_if}
 use Rattle.perf_script.specs.SampleText.{Shown}
-use Rattle.perf_script.specs.ScriptText.{Choice, is_guest, is_hidden, misc_at, has_counters, shown_text, plain_text, read_by, read_at, text_at, sample_at, shown_at}
+use Rattle.perf_script.specs.ScriptText.{Choice, is_guest, is_hidden, misc_at, side_at, shown_text, plain_text, read_by, read_at, text_at, sample_at, shown_at}
 use Rattle.perf_script.specs.UnderWay.{AreEvents, HasParts, shown_by}
+use Rattle.perf_script.specs.declared.fields.Fields.{Fields}
 use Rattle.perf_script.specs.declared.readings.Reading.{Reading}
 use Rattle.perf_script.specs.declared.script.Events.{Events}
 use Rattle.perf_script.specs.declared.script.State.{State}
@@ -67,25 +69,25 @@ some_of misc None x e = absurd (cc)
 
 abbrev text_if_some : File → Choice → (older : List Reading) → Moment → Option SampleValue → List ℕ
 text_if_some f c older m o = elim o [
-  | Some s ↦ shown_text c.labels (table_of f.events) older (readings_of m.config.read_format s) m.event m.known (shown_at f m (is_hidden f c.filter m s) s)
-  | None ↦ []
+  | Some s ↦ shown_text c.labels (table_of f.events) older (readings_of m.config.read_format s) m.event m.known (shown_at f c.style.fields m (is_hidden f c.filter m s) s)
+  | None ↦ text_if c.style.side_band (side_at f c m)
 ]
 
 abbrev read_if_some : File → (older : List Reading) → Moment → Option SampleValue → List Reading
-read_if_some f older m o = elim o [ Some s ↦ read_by older (readings_of m.config.read_format s) (shown_at f m false s) | None ↦ older ]
+read_if_some f older m o = elim o [ Some s ↦ read_by older (readings_of m.config.read_format s) (sample_present m.config) | None ↦ older ]
 
 pub none_read : (f : File) (older : List Reading) (m : Moment) (misc : ℕ) → None ≡ option_map (sample_view misc) (sample_at f m) → read_at f older m ≡ older
 none_read f older m misc e = ap (read_if_some f older m) (none_of misc (sample_at f m) e)
 
-pub none_text : (f : File) (c : Choice) (older : List Reading) (m : Moment) (misc : ℕ) → None ≡ option_map (sample_view misc) (sample_at f m) → text_at f c older m ≡ []
+pub none_text : (f : File) (c : Choice) (older : List Reading) (m : Moment) (misc : ℕ) → None ≡ option_map (sample_view misc) (sample_at f m) → text_at f c older m ≡ text_if c.style.side_band (side_at f c m)
 none_text f c older m misc e = ap (text_if_some f c older m) (none_of misc (sample_at f m) e)
 
 -- ---- the readings count only if there are counters
 
-read_parts : (older first second : List Reading) (s : Shown) → (has_bit s.fields 4 ≡ true → first ≡ second) → read_by older first s ≡ read_by older second s
-read_parts older first second s same = go (has_bit s.fields 4) refl where
-  go : (b : Bool) → has_bit s.fields 4 ≡ b → read_by older first s ≡ read_by older second s
-  go true holds = ap (λ rs. read_by older rs s) (same holds)
+read_parts : (older first second : List Reading) (fields : ℕ) → (has_bit fields 4 ≡ true → first ≡ second) → read_by older first fields ≡ read_by older second fields
+read_parts older first second fields same = go (has_bit fields 4) refl where
+  go : (b : Bool) → has_bit fields 4 ≡ b → read_by older first fields ≡ read_by older second fields
+  go true holds = ap (λ rs. read_by older rs fields) (same holds)
   go false fails = rw fails refl
 
 text_parts : (labels : List EventLabel) (ids : List IdOfEvent) (older first second : List Reading) (event : ℕ) (known : List Change) (s : Shown) → (has_bit s.fields 4 ≡ true → first ≡ second)
@@ -97,8 +99,8 @@ text_parts labels ids older first second event known s same = go (has_bit s.fiel
 
 -- ---- what is shown
 
-abbrev shown_with : (fields : ℕ) → (hidden : Bool) → Sample → List Call → Shown
-shown_with fields hidden sample calls = record { fields = fields; hidden = hidden; sample = sample; calls = calls }
+abbrev shown_with : Fields → (fields : ℕ) → (hidden : Bool) → Sample → List Call → Shown
+shown_with chosen fields hidden sample calls = record { chosen = chosen; fields = fields; hidden = hidden; sample = sample; calls = calls }
 
 -- what was found of a sample in a frame
 pub record IsFound (f : File) (m : Moment) (flat : FlatFrame) (state : State) (x : Sample) : Type 0 where
@@ -108,35 +110,36 @@ pub record IsFound (f : File) (m : Moment) (flat : FlatFrame) (state : State) (x
   pub view : x ≡ sample_view flat.misc sample
   pub parts : HasParts m.config.read_format sample flat.present state
 
-shown_is : (f : File) (m : Moment) (flat : FlatFrame) (state : State) (x : Sample) (hidden : Bool) → (h : IsFound f m flat state x) → shown_by state flat.present hidden x ≡ shown_at f m hidden h.sample
-shown_is f m flat state x hidden h =
+shown_is : (f : File) (chosen : Fields) (m : Moment) (flat : FlatFrame) (state : State) (x : Sample) (hidden : Bool) → (h : IsFound f m flat state x)
+    → shown_by state chosen flat.present hidden x ≡ shown_at f chosen m hidden h.sample
+shown_is f chosen m flat state x hidden h =
     let misc : flat.misc ≡ misc_at f m = h.states.header.misc in
-    ap (λ n. shown_with n hidden x state.calls.items) (fields_of m.config (order_of f.order) m.frame h.sample flat h.states h.is)
-    ∙ ap (λ y. shown_with (sample_present m.config) hidden y state.calls.items) h.view
-    ∙ ap (λ n. shown_with (sample_present m.config) hidden (sample_view n h.sample) state.calls.items) misc
-    ∙ ap (λ cs. shown_with (sample_present m.config) hidden (sample_view (misc_at f m) h.sample) cs) h.parts.calls
+    ap (λ n. shown_with chosen n hidden x state.calls.items) (fields_of m.config (order_of f.order) m.frame h.sample flat h.states h.is)
+    ∙ ap (λ y. shown_with chosen (sample_present m.config) hidden y state.calls.items) h.view
+    ∙ ap (λ n. shown_with chosen (sample_present m.config) hidden (sample_view n h.sample) state.calls.items) misc
+    ∙ ap (λ cs. shown_with chosen (sample_present m.config) hidden (sample_view (misc_at f m) h.sample) cs) h.parts.calls
 
-pub found_read : (f : File) (older : List Reading) (m : Moment) (flat : FlatFrame) (state : State) (x : Sample) (hidden : Bool) → IsFound f m flat state x
-    → read_by older state.readings.items (shown_by state flat.present hidden x) ≡ read_at f older m
-found_read f older m flat state x hidden h =
-    let shown : Shown = shown_by state flat.present hidden x in
-    read_parts older state.readings.items (readings_of m.config.read_format h.sample) shown h.parts.readings
-    ∙ ap (read_by older (readings_of m.config.read_format h.sample)) (shown_is f m flat state x hidden h)
+pub found_read : (f : File) (older : List Reading) (m : Moment) (flat : FlatFrame) (state : State) (x : Sample) → IsFound f m flat state x
+    → read_by older state.readings.items flat.present ≡ read_at f older m
+found_read f older m flat state x h =
+    read_parts older state.readings.items (readings_of m.config.read_format h.sample) flat.present h.parts.readings
+    ∙ ap (read_by older (readings_of m.config.read_format h.sample)) (fields_of m.config (order_of f.order) m.frame h.sample flat h.states h.is)
     ∙ ap (read_if_some f older m) (sym h.is)
 
 pub found_text : (f : File) (c : Choice) (older : List Reading) (m : Moment) (flat : FlatFrame) (state : State) (x : Sample) (hidden : Bool) (event : ℕ) (changes : List Change) → (h : IsFound f m flat state x)
     → hidden ≡ is_hidden f c.filter m h.sample → event ≡ m.event → map plain changes ≡ m.known
-    → shown_text c.labels (table_of f.events) older state.readings.items event changes (shown_by state flat.present hidden x) ≡ text_at f c older m
+    → shown_text c.labels (table_of f.events) older state.readings.items event changes (shown_by state c.style.fields flat.present hidden x) ≡ text_at f c older m
 found_text f c older m flat state x hidden event changes h hides at known =
+    let chosen : Fields = c.style.fields in
     let labels : List EventLabel = c.labels in
     let ids : List IdOfEvent = table_of f.events in
-    let shown : Shown = shown_by state flat.present hidden x in
+    let shown : Shown = shown_by state chosen flat.present hidden x in
     let readings : List Reading = readings_of m.config.read_format h.sample in
     text_parts labels ids older state.readings.items readings event changes shown h.parts.readings
-    ∙ ap (shown_text labels ids older readings event changes) (shown_is f m flat state x hidden h ∙ ap (λ b. shown_at f m b h.sample) hides)
-    ∙ sym (shown_same labels ids older readings event changes (shown_at f m (is_hidden f c.filter m h.sample) h.sample))
-    ∙ ap (λ cs. shown_text labels ids older readings event cs (shown_at f m (is_hidden f c.filter m h.sample) h.sample)) known
-    ∙ ap (λ n. shown_text labels ids older readings n m.known (shown_at f m (is_hidden f c.filter m h.sample) h.sample)) at
+    ∙ ap (shown_text labels ids older readings event changes) (shown_is f chosen m flat state x hidden h ∙ ap (λ b. shown_at f chosen m b h.sample) hides)
+    ∙ sym (shown_same labels ids older readings event changes (shown_at f chosen m (is_hidden f c.filter m h.sample) h.sample))
+    ∙ ap (λ cs. shown_text labels ids older readings event cs (shown_at f chosen m (is_hidden f c.filter m h.sample) h.sample)) known
+    ∙ ap (λ n. shown_text labels ids older readings n m.known (shown_at f chosen m (is_hidden f c.filter m h.sample) h.sample)) at
     ∙ ap (text_if_some f c older m) (sym h.is)
 
 -- whether it is hidden

@@ -7,3 +7,5 @@ pub mod Groups
 pub mod Found
 pub mod Ways
 pub mod Blocks
+pub mod Appended
+pub mod SideLines

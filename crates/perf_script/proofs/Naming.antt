@@ -11,6 +11,7 @@ use Rattle.perf_file.specs.declared.opening.Recording.{Recording}
 use Rattle.perf_walk.specs.declared.filtering.Filter.{Filter}
 use Rattle.perf_script.specs.ScriptText.{Choice, choice_by}
 use Rattle.perf_script.specs.UnderWay.{AreChosen, AreEvents}
+use Rattle.perf_script.specs.declared.fields.Style.{Style}
 use Rattle.perf_script.specs.declared.labels.Label.{Label}
 use Rattle.perf_script.specs.declared.script.Events.{Events}
 use Rattle.perf_script.specs.Labels.{EventLabel, any_counts, label_view, label_at, label_with, named, names_by, labels_by, own_name, own_label, own_labels, widest, AreNamedBy}
@@ -41,11 +42,12 @@ own_labels_named w r naming are =
     ∙ own_alike (label_with w (widest (names_by naming (map event_view r.events.items)))) naming 0 r.events.items (from_first r naming are)
 
 -- and the filter by which they were made
-pub chosen_by : (w : Filter) (r : Recording) (naming : ℕ → FileEvent → Name) (events : Events) → AreNamedBy r naming → AreEvents (view r) (own_labels w r.events.items) events → events.filter ≡ w
-    → AreChosen (view r) (choice_by w naming (view r).events) events
-chosen_by w r naming events named are same = record {
+pub chosen_by : (style : Style) (w : Filter) (r : Recording) (naming : ℕ → FileEvent → Name) (events : Events) → AreNamedBy r naming → AreEvents (view r) (own_labels w r.events.items) events → events.filter ≡ w
+    → events.style ≡ style → AreChosen (view r) (choice_by style w naming (view r).events) events
+chosen_by style w r naming events named are same shown = record {
   labelled = subst (λ labels. AreEvents (view r) labels events) (own_labels_named w r naming named) are;
   filter = same;
+  style = shown;
 }
 
 -- whether samples of one of them count
@@ -58,15 +60,15 @@ any_is f c events chosen = any_of events.labels.items ∙ ap any_counts chosen.l
 
 -- ---- the label of an event with a number
 
-abbrev pub label_record : (text : List ℕ) (period : ℕ) (counts : Bool) → EventLabel
-label_record text period counts = record { text = text; period = period; counts = counts }
+abbrev pub label_record : (text : List ℕ) (period fields : ℕ) (counts : Bool) → EventLabel
+label_record text period fields counts = record { text = text; period = period; fields = fields; counts = counts }
 
 pub label_found : (list : List Label) (n : ℕ) (l : Label) (text : List ℕ) → n < length list → l ≡ get_or list n l → text ≡ l.text.items
-    → label_record text l.period l.counts ≡ label_at (map label_view list) n
+    → label_record text l.period l.fields l.counts ≡ label_at (map label_view list) n
 label_found list n l text lt is same =
-    ap (λ t. label_record t l.period l.counts) same ∙ ap label_view is ∙ sym (get_or-map label_view list n l (label_record [] 0 true) lt)
+    ap (λ t. label_record t l.period l.fields l.counts) same ∙ ap label_view is ∙ sym (get_or-map label_view list n l (label_record [] 0 0 true) lt)
 
-pub label_absent : (list : List Label) (n : ℕ) → length list ≤ n → label_record [] 0 true ≡ label_at (map label_view list) n
+pub label_absent : (list : List Label) (n : ℕ) → length list ≤ n → label_record [] 0 0 true ≡ label_at (map label_view list) n
 label_absent list n over =
     let long : length (map label_view list) ≤ n = omega (arith, over, length-map list label_view) in
-    sym (get_or-eq_default (map label_view list) (label_record [] 0 true) long)
+    sym (get_or-eq_default (map label_view list) (label_record [] 0 0 true) long)

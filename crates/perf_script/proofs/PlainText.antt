@@ -1,5 +1,5 @@
 -- Texts do not depend on where byte strings are.
-use Rattle.std.proofs.Common.{◌≡◌, ℕ, List, [], ◌∷◌, ◌++◌, ◌==◌, ◌||◌, not, map, refl, sym, ◌∙◌, ap, codes, if◌then◌else◌}
+use Rattle.std.proofs.Common.{◌≡◌, ℕ, List, [], ◌∷◌, ◌++◌, ◌==◌, ◌&&◌, ◌||◌, not, Bool, map, refl, sym, ◌∙◌, ap, codes, if◌then◌else◌}
 use Rattle.std.specs.Prelude.{Option, Some, None, option_map}
 use Rattle.perf_file.specs.declared.ids.IdOfEvent.{IdOfEvent}
 use Rattle.perf_file.specs.IdTables.{event_of}
@@ -16,15 +16,17 @@ use Rattle.perf_walk.specs.Plain.{plain, plain_name, plain_file, plain_place}
 use Rattle.perf_walk.specs.declared.calls.Call.{Call}
 use Rattle.perf_walk.proofs.PlainNames.{name_plain, place_plain}
 use Rattle.perf_words.specs.Bits.{has_bit}
-use Rattle.perf_script.specs.Columns.{right, task_column, period_column, address_column}
+use Rattle.perf_script.specs.Columns.{right, task_column, address_column}
 use Rattle.perf_script.specs.Threads.{thread_name, name_width}
 use Rattle.perf_script.specs.Files.{file_name, place_name, shown_address}
 use Rattle.perf_script.specs.Chains.{placed_line, call_line, call_lines}
 use Rattle.perf_script.specs.Counters.{counters_text, counter_text, moved_text}
 use Rattle.perf_script.specs.Labels.{EventLabel, label_at, with_period}
 use Rattle.perf_script.specs.Moved.{moved}
-use Rattle.perf_script.specs.SampleText.{Shown, text_if, is_chained, head_columns, cpu_column_if, time_column_if, code_columns_if, address_columns, chain_lines, event_columns, own_text, sample_text}
+use Rattle.perf_script.specs.Heads.{text_if, head_columns, cpu_column_if, time_column_if}
+use Rattle.perf_script.specs.SampleText.{Shown, head_of, front_columns, code_columns_if, address_columns, chain_lines, event_columns, own_text, sample_text}
 use Rattle.perf_script.specs.ScriptText.{plain_text, shown_text, period_of, has_counters}
+use Rattle.perf_script.specs.declared.heads.Head.{Head}
 use Rattle.perf_script.specs.declared.readings.Reading.{Reading}
 
 -- ---- names
@@ -64,47 +66,48 @@ address_same changes pid mode address = ap (shown_address mode address) (sym (pl
 -- ---- chains
 
 -- a line by what it shows
-abbrev line_with : (address : ℕ) (name : List ℕ) → List ℕ
-line_with address name = codes "\t" ++ (address_column address ++ ((codes " (" ++ (name ++ codes ")")) ++ codes "\n"))
+abbrev line_shown : (with_place : Bool) (address : ℕ) (name : List ℕ) → List ℕ
+line_shown with_place address name =
+    codes "\t" ++ (address_column address ++ ((if with_place then codes " (" ++ (name ++ codes ")") else []) ++ codes "\n"))
 
-call_same : (changes : List Change) (pid : ℕ) (call : Call) → call_line (map plain changes) pid call ≡ call_line changes pid call
-call_same changes pid call =
-    ap (λ a. line_with a (place_name call.mode (place_of (map plain changes) pid call.mode call.address))) (address_same changes pid call.mode call.address)
-    ∙ ap (line_with (shown_address call.mode call.address (place_of changes pid call.mode call.address))) (place_same changes pid call.mode call.address)
+call_same : (with_place : Bool) (changes : List Change) (pid : ℕ) (call : Call) → call_line with_place (map plain changes) pid call ≡ call_line with_place changes pid call
+call_same with_place changes pid call =
+    ap (λ a. line_shown with_place a (place_name call.mode (place_of (map plain changes) pid call.mode call.address))) (address_same changes pid call.mode call.address)
+    ∙ ap (line_shown with_place (shown_address call.mode call.address (place_of changes pid call.mode call.address))) (place_same changes pid call.mode call.address)
 
-calls_same : (changes : List Change) (pid : ℕ) (calls : List Call) → call_lines (map plain changes) pid calls ≡ call_lines changes pid calls
-calls_same changes pid [] = refl
-calls_same changes pid (call ∷ calls) =
-    ap (λ line. line ++ call_lines (map plain changes) pid calls) (call_same changes pid call)
-    ∙ ap (λ rest. call_line changes pid call ++ rest) (calls_same changes pid calls)
+calls_same : (with_place : Bool) (changes : List Change) (pid : ℕ) (calls : List Call) → call_lines with_place (map plain changes) pid calls ≡ call_lines with_place changes pid calls
+calls_same with_place changes pid [] = refl
+calls_same with_place changes pid (call ∷ calls) =
+    ap (λ line. line ++ call_lines with_place (map plain changes) pid calls) (call_same with_place changes pid call)
+    ∙ ap (λ rest. call_line with_place changes pid call ++ rest) (calls_same with_place changes pid calls)
 
 -- ---- samples
 
--- the columns before the period by the name of the thread
-abbrev head_with : Shown → (name : List ℕ) → List ℕ
-head_with s name =
-    text_if (has_bit s.fields 1) ((right (name_width (is_chained s.fields)) name ++ codes " ") ++ task_column s.sample.pid s.sample.tid)
-    ++ (cpu_column_if s ++ time_column_if s)
+-- the columns at the front of a line by the name of the thread
+abbrev head_with : Head → (name : List ℕ) → List ℕ
+head_with h name =
+    text_if (has_bit h.fields 1) (text_if h.chosen.comm (right (name_width h.chained) name ++ codes " ") ++ task_column h.chosen.pid h.chosen.tid h.pid h.tid)
+    ++ (cpu_column_if h ++ time_column_if h)
 
-head_same : (changes : List Change) (s : Shown) → head_columns (map plain changes) s ≡ head_columns changes s
-head_same changes s = ap (head_with s) (thread_same changes s.sample.tid)
+pub head_same : (changes : List Change) (h : Head) → head_columns (map plain changes) h ≡ head_columns changes h
+head_same changes h = ap (head_with h) (thread_same changes h.named)
 
 ip_same : (changes : List Change) (s : Shown) → address_columns (map plain changes) s ≡ address_columns changes s
 ip_same changes s =
-    ap (λ name. codes " " ++ (address_column s.sample.ip ++ (codes " (" ++ (name ++ codes ")")))) (place_same changes s.sample.pid s.sample.mode s.sample.ip)
+    ap (λ name. codes " " ++ (address_column s.sample.ip ++ (if s.chosen.dso then codes " (" ++ (name ++ codes ")") else []))) (place_same changes s.sample.pid s.sample.mode s.sample.ip)
 
 chain_same : (changes : List Change) (s : Shown) → chain_lines (map plain changes) s ≡ chain_lines changes s
-chain_same changes s = ap (λ lines. codes "\n" ++ lines) (calls_same changes s.sample.pid s.calls)
+chain_same changes s = ap (λ lines. codes "\n" ++ lines) (calls_same s.chosen.dso changes s.sample.pid s.calls)
 
 code_same : (changes : List Change) (s : Shown) → code_columns_if (map plain changes) s ≡ code_columns_if changes s
 code_same changes s =
-    ap (λ lines. text_if (has_bit s.fields 0) (if has_bit s.fields 5 then lines else address_columns (map plain changes) s)) (chain_same changes s)
-    ∙ ap (λ columns. text_if (has_bit s.fields 0) (if has_bit s.fields 5 then chain_lines changes s else columns)) (ip_same changes s)
+    ap (λ lines. text_if (s.chosen.ip && has_bit s.fields 0) (if has_bit s.fields 5 then lines else address_columns (map plain changes) s)) (chain_same changes s)
+    ∙ ap (λ columns. text_if (s.chosen.ip && has_bit s.fields 0) (if has_bit s.fields 5 then chain_lines changes s else columns)) (ip_same changes s)
 
 own_same : (label : List ℕ) (period : ℕ) (changes : List Change) (s : Shown) → own_text label period (map plain changes) s ≡ own_text label period changes s
 own_same label period changes s =
-    ap (λ head. head ++ (event_columns label period ++ (code_columns_if (map plain changes) s ++ codes "\n"))) (head_same changes s)
-    ∙ ap (λ code. head_columns changes s ++ (event_columns label period ++ (code ++ codes "\n"))) (code_same changes s)
+    ap (λ head. head ++ (event_columns s.chosen label period ++ (code_columns_if (map plain changes) s ++ codes "\n"))) (head_same changes (head_of s))
+    ∙ ap (λ code. front_columns changes s ++ (event_columns s.chosen label period ++ (code ++ codes "\n"))) (code_same changes s)
 
 sample_same : (l : EventLabel) (changes : List Change) (s : Shown) → sample_text l (map plain changes) s ≡ sample_text l changes s
 sample_same l changes s = ap (λ t. if s.hidden || not l.counts then [] else t) (own_same l.text l.period changes s)
@@ -125,5 +128,5 @@ counters_same labels ids changes s older (r ∷ rs) =
 pub shown_same : (labels : List EventLabel) (ids : List IdOfEvent) (older readings : List Reading) (event : ℕ) (changes : List Change) (s : Shown)
     → shown_text labels ids older readings event (map plain changes) s ≡ shown_text labels ids older readings event changes s
 shown_same labels ids older readings event changes s =
-    ap (λ t. if has_counters s then t else plain_text labels event (map plain changes) s) (counters_same labels ids changes s older readings)
-    ∙ ap (λ t. if has_counters s then counters_text labels ids changes s older readings else t) (sample_same (with_period (label_at labels event) (period_of (label_at labels event) s)) changes s)
+    ap (λ t. if has_counters s.fields then t else plain_text labels event (map plain changes) s) (counters_same labels ids changes s older readings)
+    ∙ ap (λ t. if has_counters s.fields then counters_text labels ids changes s older readings else t) (sample_same (with_period (label_at labels event) (period_of (label_at labels event) s)) changes s)

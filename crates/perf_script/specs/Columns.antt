@@ -1,6 +1,7 @@
 -- The columns of a line.
-use Rattle.std.specs.Prelude.{ℕ, false, ◌-◌, ◌/◌, ◌%◌, ◌^◌, List, ◌++◌, length, replicate, codes, decimal, nat_lt, if◌then◌else◌}
+use Rattle.std.specs.Prelude.{ℕ, Bool, true, false, ◌-◌, ◌/◌, ◌%◌, ◌^◌, ◌==◌, List, [], ◌++◌, length, replicate, codes, decimal, nat_lt, if◌then◌else◌}
 use Rattle.std.specs.Fmt.{digits}
+use Rattle.perf_text.specs.Numbers.{hex}
 
 -- a text, with as many of a byte before it as it is short of a width
 abbrev pub padded : (fill width : ℕ) → List ℕ → List ℕ
@@ -27,8 +28,19 @@ abbrev pub address_column : ℕ → List ℕ
 address_column address = right 16 (digits 16 false address)
 
 -- a process and a thread
-abbrev pub task_column : (pid tid : ℕ) → List ℕ
-task_column pid tid = right 5 (signed pid) ++ (codes "/" ++ (left 5 (signed tid) ++ codes " "))
+abbrev pub task_pair : (pid tid : ℕ) → List ℕ
+task_pair pid tid = right 5 (signed pid) ++ (codes "/" ++ left 5 (signed tid))
+
+-- one of the two
+abbrev pub task_number : ℕ → List ℕ
+task_number n = right 5 (signed n) ++ codes " "
+
+-- those of the two that are chosen
+abbrev pub task_column : (with_pid with_tid : Bool) → (pid tid : ℕ) → List ℕ
+task_column true true pid tid = task_pair pid tid ++ codes " "
+task_column true false pid tid = task_number pid
+task_column false true pid tid = task_number tid
+task_column false false pid tid = []
 
 -- the number of a processor, of three digits or more
 abbrev pub cpu_number : ℕ → List ℕ
@@ -45,3 +57,7 @@ time_column time = right 5 (decimal (time / 1000000000)) ++ (codes "." ++ (zeros
 -- a period
 abbrev pub period_column : ℕ → List ℕ
 period_column period = right 10 (decimal period) ++ codes " "
+
+-- a number in hexadecimal, with `0x` before its digits unless it is 0
+abbrev pub hex_number : ℕ → List ℕ
+hex_number n = if n == 0 then codes "0" else hex n

@@ -11,7 +11,8 @@ use Rattle.perf_types.specs.ReadGroup.{GroupRead, only_entry}
 use Rattle.perf_types.specs.declared.group_entry.GroupEntry.{GroupEntry}
 use Rattle.perf_script.specs.Labels.{EventLabel, label_at, with_period}
 use Rattle.perf_script.specs.Moved.{moved}
-use Rattle.perf_script.specs.SampleText.{Shown, sample_text, text_if}
+use Rattle.perf_script.specs.Heads.{text_if}
+use Rattle.perf_script.specs.SampleText.{Shown, sample_text}
 use Rattle.perf_script.specs.declared.readings.Reading.{Reading}
 
 -- a counter that was read: its id, and its value

@@ -1,5 +1,5 @@
 -- What is mapped at an address, as it is named.
-use Rattle.std.specs.Prelude.{ℕ, List, ◌++◌, codes, decimal, nat_eq, Option, Some, None, if◌then◌else◌}
+use Rattle.std.specs.Prelude.{ℕ, Bool, List, [], ◌++◌, codes, decimal, nat_eq, Option, Some, None, if◌then◌else◌}
 use Rattle.std.specs.List.{starts_with}
 use Rattle.perf_history.specs.declared.changes.Mode.{Mode}
 use Rattle.perf_history.specs.declared.changes.Mode.TheVariants.{Kernel, User, Other}
@@ -36,6 +36,10 @@ place_name mode None = codes "[unknown]"
 -- the same in brackets, after a space
 abbrev pub place_column : Mode → Option Place → List ℕ
 place_column mode place = codes " (" ++ (place_name mode place ++ codes ")")
+
+-- the same, if it is chosen
+abbrev pub place_column_if : (chosen : Bool) → Mode → Option Place → List ℕ
+place_column_if chosen mode place = if chosen then place_column mode place else []
 
 -- the address that a chain shows: the kernel's as it is, another one as the offset in its file
 abbrev pub shown_address : Mode → (address : ℕ) → Option Place → ℕ

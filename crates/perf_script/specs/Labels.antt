@@ -10,19 +10,21 @@ use Rattle.perf_walk.specs.declared.filtering.Filter.{Filter}
 use Rattle.perf_script.specs.Columns.{right}
 use Rattle.perf_script.specs.declared.labels.Label.{Label}
 
--- how an event is labelled, the period of its samples that contain none, and whether they count
+-- how an event is labelled, the period of its samples that contain none, which fields they have, and
+-- whether they count
 pub record EventLabel : Type 0 where
   pub text : List ℕ
   pub period : ℕ
+  pub fields : ℕ
   pub counts : Bool
 
 -- a label of the code
 abbrev pub label_view : Label → EventLabel
-label_view l = record { text = l.text.items; period = l.period; counts = l.counts }
+label_view l = record { text = l.text.items; period = l.period; fields = l.fields; counts = l.counts }
 
 -- a label with a period
 abbrev pub with_period : EventLabel → (period : ℕ) → EventLabel
-with_period l period = record { text = l.text; period = period; counts = l.counts }
+with_period l period = record { text = l.text; period = period; fields = l.fields; counts = l.counts }
 
 -- the length of the longest of some names
 abbrev pub widest : List (List ℕ) → ℕ
@@ -35,11 +37,16 @@ label width name = right width name ++ codes ": "
 
 -- how an event with this name is labelled, with names in a column of a width
 abbrev pub label_with : Filter → (width : ℕ) → List ℕ → FileEvent → EventLabel
-label_with w width name e = record { text = label width name; period = e.attribute.sample_period; counts = takes_event w name }
+label_with w width name e = record {
+  text = label width name;
+  period = e.attribute.sample_period;
+  fields = e.attribute.sample_type;
+  counts = takes_event w name;
+}
 
 -- the label of the event with a number, which is empty without one
 abbrev pub label_at : List EventLabel → ℕ → EventLabel
-label_at labels n = get_or labels n (record { text = []; period = 0; counts = true })
+label_at labels n = get_or labels n (record { text = []; period = 0; fields = 0; counts = true })
 
 -- whether samples of one of the events count
 abbrev pub any_counts : List EventLabel → Bool

@@ -1,7 +1,12 @@
 pub mod Columns
+pub mod Fields
 pub mod Threads
 pub mod Files
 pub mod Chains
+pub mod Heads
+pub mod RecordText
+pub mod FlatLines
+pub mod SideBand
 pub mod SampleText
 pub mod Seen
 pub mod Headings

@@ -18,6 +18,7 @@ use Rattle.perf_script.specs.Ids.{finds}
 use Rattle.perf_script.specs.Labels.{EventLabel, label_view}
 use Rattle.perf_script.specs.SampleText.{Shown}
 use Rattle.perf_script.specs.ScriptText.{Choice, text_at, text_from, read_at, is_refused, any_refused}
+use Rattle.perf_script.specs.declared.fields.Fields.{Fields}
 use Rattle.perf_script.specs.declared.readings.Reading.{Reading}
 use Rattle.perf_script.specs.declared.script.Events.{Events}
 use Rattle.perf_script.specs.declared.script.Script.{Script}
@@ -28,14 +29,15 @@ pub record AreEvents (f : File) (all : List EventLabel) (events : Events) : Type
   pub labels : map label_view events.labels.items ≡ all
   pub ids : (id : ℕ) → finds events.ids id ≡ event_of (table_of f.events) id
 
--- the same, and these samples count
+-- the same, these samples count, and these lines are there
 pub record AreChosen (f : File) (c : Choice) (events : Events) : Type 0 where
   pub labelled : AreEvents f c.labels events
   pub filter : events.filter ≡ c.filter
+  pub style : events.style ≡ c.style
 
 -- what is shown of a sample by the parts that were found
-abbrev pub shown_by : State → (fields : ℕ) → (hidden : Bool) → Sample → Shown
-shown_by state fields hidden sample = record { fields = fields; hidden = hidden; sample = sample; calls = state.calls.items }
+abbrev pub shown_by : State → Fields → (fields : ℕ) → (hidden : Bool) → Sample → Shown
+shown_by state chosen fields hidden sample = record { chosen = chosen; fields = fields; hidden = hidden; sample = sample; calls = state.calls.items }
 
 -- the parts of a sample were found
 pub record HasParts (read_format : ℕ) (s : SampleValue) (fields : ℕ) (state : State) : Type 0 where

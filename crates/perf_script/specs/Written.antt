@@ -12,6 +12,7 @@ use Rattle.perf_walk.specs.declared.filtering.Filter.{Filter}
 use Rattle.perf_script.specs.Labels.{any_counts, labels_by}
 use Rattle.perf_script.specs.ScriptText.{IsText}
 use Rattle.perf_script.specs.declared.error.ScriptError.{ScriptError}
+use Rattle.perf_script.specs.declared.fields.Style.{Style}
 use Rattle.perf_script.specs.declared.error.ScriptError.TheVariants as errors
 
 -- the outcome of a text that could be written
@@ -24,20 +25,21 @@ Writes outcome.Stopped refused text old new = (n : ℕ) × Appends old new (take
 Writes how refused text old new = (how ≡ outcome_of refused) × Appends old new text
 
 -- what was written of a file that could be opened, by a filter that takes one of its events
-abbrev pub WritesOf : Filter → File → (bytes : List ℕ) → Outcome → (old new : Option (List ℕ)) → Type 0
-WritesOf w f bytes how old new =
-    (any_counts (labels_by w (event_name bytes f) f.events) ≡ true) × (refused : Bool) × (text : List ℕ) × IsText w f (event_name bytes f) refused text × Writes how refused text old new
+abbrev pub WritesOf : Style → Filter → File → (bytes : List ℕ) → Outcome → (old new : Option (List ℕ)) → Type 0
+WritesOf style w f bytes how old new =
+    (any_counts (labels_by w (event_name bytes f) f.events) ≡ true) × (refused : Bool) × (text : List ℕ) × IsText style w f (event_name bytes f) refused text × Writes how refused text old new
 
 -- a file has no event that a filter takes
 abbrev pub LacksEvent : Filter → (bytes : List ℕ) → Type 0
 LacksEvent w bytes = (f : File) × (opened bytes ≡ Ok f) × (any_counts (labels_by w (event_name bytes f) f.events) ≡ false)
 
--- What was written of the bytes of a file: the text of its samples that a filter takes, or nothing, if it
--- cannot be opened, no event has the name that counts, or memory runs out.
-abbrev pub WritesScript : Filter → List ℕ → Result Outcome ScriptError → (old new : Option (List ℕ)) → Type 0
-WritesScript w bytes (Ok how) old new = (f : File) × (opened bytes ≡ Ok f) × WritesOf w f bytes how old new
-WritesScript w bytes (Err (errors.Open e)) old new = Fails e (opened bytes) × (new ≡ old)
-WritesScript w bytes (Err errors.NoEvent) old new = LacksEvent w bytes × (new ≡ old)
+-- What was written of the bytes of a file: the text of its samples that a filter takes and, if they are
+-- chosen, of its other records, or nothing, if it cannot be opened, no event has the name that counts, or
+-- memory runs out.
+abbrev pub WritesScript : Style → Filter → List ℕ → Result Outcome ScriptError → (old new : Option (List ℕ)) → Type 0
+WritesScript style w bytes (Ok how) old new = (f : File) × (opened bytes ≡ Ok f) × WritesOf style w f bytes how old new
+WritesScript style w bytes (Err (errors.Open e)) old new = Fails e (opened bytes) × (new ≡ old)
+WritesScript style w bytes (Err errors.NoEvent) old new = LacksEvent w bytes × (new ≡ old)
 
 -- the exit status: 2 if there is no text, 3 if memory runs out
 abbrev pub status_after : Result Outcome ScriptError → ℕ

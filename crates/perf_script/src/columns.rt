@@ -36,7 +36,7 @@ fn push_left(text: &mut Vec<u8>, width: usize, word: &[u8]) -> Result<(), AllocE
 }
 
 // Appends a text in a column of a width, with zeros before it.
-fn push_zeros(text: &mut Vec<u8>, width: usize, word: &[u8]) -> Result<(), AllocError>
+pub(crate) fn push_zeros(text: &mut Vec<u8>, width: usize, word: &[u8]) -> Result<(), AllocError>
     ensures { OnOk result (text.new.items ≡ text.old.items ++ columns.zeros width word.now) }
 {
     push_fill(text, b'0', width.saturating_sub(word.len()))?;
@@ -58,13 +58,42 @@ pub(crate) fn put_signed(strip: &mut Strip, number: u32)
 }
 
 // Appends a process and a thread.
-pub(crate) fn push_task(text: &mut Vec<u8>, pid: u32, tid: u32) -> Result<(), AllocError>
-    ensures { OnOk result (text.new.items ≡ text.old.items ++ columns.task_column pid tid) }
+pub(crate) fn push_pair(text: &mut Vec<u8>, pid: u32, tid: u32) -> Result<(), AllocError>
+    ensures { OnOk result (text.new.items ≡ text.old.items ++ columns.task_pair pid tid) }
 {
     push_process(text, pid)?;
     text.extend_from_slice(b"/")?;
-    push_thread(text, tid)?;
+    push_thread(text, tid)
+}
+
+// Appends one of the two.
+fn push_task_number(text: &mut Vec<u8>, number: u32) -> Result<(), AllocError>
+    ensures { OnOk result (text.new.items ≡ text.old.items ++ columns.task_number number) }
+{
+    push_process(text, number)?;
     text.extend_from_slice(b" ")
+}
+
+// Appends those of the two that are chosen.
+pub(crate) fn push_task(
+    text: &mut Vec<u8>,
+    with_pid: bool,
+    with_tid: bool,
+    pid: u32,
+    tid: u32,
+) -> Result<(), AllocError>
+    ensures { OnOk result (text.new.items ≡ text.old.items
+        ++ columns.task_column with_pid with_tid pid tid) }
+{
+    match (with_pid, with_tid) {
+        (true, true) => {
+            push_pair(text, pid, tid)?;
+            text.extend_from_slice(b" ")
+        }
+        (true, false) => push_task_number(text, pid),
+        (false, true) => push_task_number(text, tid),
+        (false, false) => Ok(()),
+    }
 }
 
 // Appends a process.
@@ -155,4 +184,17 @@ pub(crate) fn push_address(text: &mut Vec<u8>, address: u64) -> Result<(), Alloc
     let mut strip = Strip::new();
     strip.put_hex(address);
     push_right(text, 16, &strip.text().as_bytes()[2..])
+}
+
+// Writes a number in hexadecimal before the text, with `0x` before its digits unless it is 0.
+pub(crate) fn put_hex_number(strip: &mut Strip, number: u64)
+    requires { 18 ≤ room_of strip.old }
+    ensures text { strip_text strip.new ≡ columns.hex_number number ++ strip_text strip.old }
+    ensures room { room_of strip.old ≤ room_of strip.new + 18 }
+{
+    if number == 0 {
+        strip.put("0");
+    } else {
+        strip.put_hex(number);
+    }
 }

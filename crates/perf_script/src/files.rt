@@ -61,7 +61,7 @@ fn push_place(text: &mut Vec<u8>, mode: Mode, place: Option<Place<'_>>) -> Resul
 }
 
 // Appends the same in brackets.
-pub(crate) fn push_place_column(
+fn push_place_column(
     text: &mut Vec<u8>,
     mode: Mode,
     place: Option<Place<'_>>,
@@ -71,6 +71,23 @@ pub(crate) fn push_place_column(
     text.extend_from_slice(b" (")?;
     push_place(text, mode, place)?;
     text.extend_from_slice(b")")
+}
+
+// Appends the same, if it is chosen.
+pub(crate) fn push_place_column_if(
+    text: &mut Vec<u8>,
+    chosen: bool,
+    mode: Mode,
+    place: Option<Place<'_>>,
+) -> Result<(), AllocError>
+    ensures { OnOk result (text.new.items ≡ text.old.items
+        ++ files.place_column_if chosen mode place.entry) }
+{
+    if chosen {
+        push_place_column(text, mode, place)
+    } else {
+        Ok(())
+    }
 }
 
 // The address that a chain shows.

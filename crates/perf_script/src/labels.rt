@@ -15,6 +15,8 @@ pub struct Label {
     pub text: Vec<u8>,
     /// The period of its samples that contain none: that of its attribute.
     pub period: u64,
+    /// Which fields its samples have, `PERF_SAMPLE_*`: those of its attribute.
+    pub fields: u64,
     /// Whether its samples count.
     pub counts: bool,
 }
@@ -72,6 +74,7 @@ fn label_of(
     Ok(Label {
         text: label_text(alloc, &name, width)?,
         period: event.attr().sample_period,
+        fields: event.attr().sample_type,
         counts: filter.takes_event(name.as_bytes()),
     })
 }

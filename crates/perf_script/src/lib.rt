@@ -1,19 +1,24 @@
-//! The text of the samples of a recording, as `perf script` prints it.
+//! The text of the samples and the other records of a recording, as `perf script` prints it.
 #![tactic(auto)]
 
 mod chains;
 mod columns;
 mod error;
+mod fields;
 mod files;
+mod heads;
 mod ids;
 mod labels;
 mod readings;
+mod records;
 mod run;
 mod samples;
 mod script;
+mod side_band;
 mod threads;
 
 pub use error::ScriptError;
+pub use fields::{Fields, Style, is_field_name};
 pub use ids::Ids;
 pub use labels::{Label, labels_of};
 pub use readings::{Counters, Reading, push_readings};

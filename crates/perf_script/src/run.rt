@@ -4,6 +4,7 @@ ghost use Rattle.std.specs.Prelude.{◌≡◌};
 ghost use Rattle.perf_script.specs.Written as written;
 
 use crate::error::ScriptError;
+use crate::fields::Style;
 use crate::script::{Events, text_of_events};
 use perf_file::{OpenError, Recording};
 use perf_lines::outcome::Outcome;
@@ -12,8 +13,8 @@ use perf_walk::Filter;
 use std::alloc::Global;
 use std::io::Write;
 
-/// Writes the text of the samples of a file that a filter takes, in order of time. Nothing is written
-/// before all of the text is made, and nothing at all if the file cannot be opened, no event has the
+/// Writes the text of the samples of a file that a filter takes, in order of time, and of its other
+/// records, if the style has these. Nothing is written before all of the text is made, and nothing at all if the file cannot be opened, no event has the
 /// name that the filter states, or memory runs out.
 ///
 /// Of counters that a sample reads, the filter takes those of events with the name that it states.
@@ -23,14 +24,15 @@ use std::io::Write;
 pub fn write_script<W: Write>(
     alloc: Global,
     bytes: &[u8],
+    style: Style,
     filter: Filter<'_>,
     writer: &mut W,
 ) -> Result<Outcome, ScriptError>
-    ensures { written.WritesScript filter.entry bytes.now result
+    ensures { written.WritesScript style filter.entry bytes.now result
         (W.contents writer.old) (W.contents writer.new) }
 {
     let recording = Recording::open(alloc, bytes)?;
-    let events = Events::of(alloc, filter, &recording)?;
+    let events = Events::of(alloc, style, filter, &recording)?;
     if !events.any_counts() {
         return Err(ScriptError::NoEvent);
     }

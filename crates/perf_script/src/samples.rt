@@ -3,15 +3,17 @@
 ghost use Rattle.std.specs.Prelude.{◌≡◌, ◌++◌, ◌<◌, OnOk, List, ℕ};
 ghost use Rattle.perf_history.specs.Recorded.{IsHistory};
 ghost use Rattle.perf_history.specs.declared.changes.Change.{Change};
-ghost use Rattle.perf_words.specs.Bits.{has_bit};
+ghost use Rattle.perf_script.specs.Columns.{period_column};
 ghost use Rattle.perf_script.specs.Headings.{heading_view};
+ghost use Rattle.perf_script.specs.Heads.{text_if};
 ghost use Rattle.perf_script.specs.SampleText as samples;
 ghost use Rattle.perf_script.specs.Seen.{shown_in};
 
 use crate::chains::push_calls;
-use crate::columns::{push_address, push_cpu, push_period, push_task, push_time};
-use crate::files::push_place_column;
-use crate::threads::push_name_column;
+use crate::columns::{push_address, push_period};
+use crate::fields::Fields;
+use crate::files::push_place_column_if;
+use crate::heads::{Head, has_field, is_chained, push_head};
 use perf_history::History;
 use perf_walk::{Call, Sample};
 use std::alloc::AllocError;
@@ -19,6 +21,8 @@ use std::alloc::AllocError;
 /// What is shown of a sample.
 #[derive(Clone, Copy, Debug)]
 pub struct Sampled<'a> {
+    /// Which fields are chosen.
+    pub chosen: Fields,
     /// Which fields it has, `PERF_SAMPLE_*`.
     pub fields: u64,
     /// Whether it has no text, as it was taken in a guest, or does not count.
@@ -32,104 +36,38 @@ pub struct Sampled<'a> {
 // The flags of the fields that are shown.
 const IP: u32 = 0;
 
-const TID: u32 = 1;
-
-const TIME: u32 = 2;
-
 const CALLCHAIN: u32 = 5;
 
-const CPU: u32 = 7;
-
-// Whether a field is there.
-pub(crate) fn has_field(fields: u64, flag: u32) -> bool
-    requires { flag < 64 }
-    ensures { result ≡ has_bit fields flag }
+// What the columns at the front of a sample's line are made of.
+fn head_of(shown: &Sampled<'_>) -> Head
+    ensures { result ≡ samples.head_of (shown_in shown.now) }
 {
-    (fields >> flag) % 2 == 1
-}
-
-// Whether the lines of a chain follow.
-fn is_chained(fields: u64) -> bool
-    ensures { result ≡ samples.is_chained fields }
-{
-    has_field(fields, IP) && has_field(fields, CALLCHAIN)
-}
-
-// Appends the columns of the thread.
-fn push_thread(
-    text: &mut Vec<u8>,
-    history: &History<'_>,
-    shown: &Sampled<'_>,
-) -> Result<(), AllocError>
-    ensures { (changes : List Change) → IsHistory history.now changes →
-        OnOk result (text.new.items ≡ text.old.items
-        ++ samples.thread_columns changes (shown_in shown.now)) }
-{
-    push_name_column(
-        text,
-        is_chained(shown.fields),
-        history.comm(shown.sample.tid),
-    )?;
-    push_task(text, shown.sample.pid, shown.sample.tid)
-}
-
-// Appends the columns of the thread, if it is known.
-fn push_thread_if(
-    text: &mut Vec<u8>,
-    history: &History<'_>,
-    shown: &Sampled<'_>,
-) -> Result<(), AllocError>
-    ensures { (changes : List Change) → IsHistory history.now changes →
-        OnOk result (text.new.items ≡ text.old.items
-        ++ samples.thread_columns_if changes (shown_in shown.now)) }
-{
-    if has_field(shown.fields, TID) {
-        push_thread(text, history, shown)
-    } else {
-        Ok(())
-    }
-}
-
-// Appends the column of the processor, if it is known.
-fn push_cpu_if(text: &mut Vec<u8>, shown: &Sampled<'_>) -> Result<(), AllocError>
-    ensures { OnOk result (text.new.items ≡ text.old.items
-        ++ samples.cpu_column_if (shown_in shown.now)) }
-{
-    if has_field(shown.fields, CPU) {
-        push_cpu(text, shown.sample.cpu)
-    } else {
-        Ok(())
-    }
-}
-
-// Appends the column of the time, if it is known.
-fn push_time_if(text: &mut Vec<u8>, shown: &Sampled<'_>) -> Result<(), AllocError>
-    ensures { OnOk result (text.new.items ≡ text.old.items
-        ++ samples.time_column_if (shown_in shown.now)) }
-{
-    if has_field(shown.fields, TIME) {
-        push_time(text, shown.sample.time)
-    } else {
-        Ok(())
+    Head {
+        chosen: shown.chosen,
+        fields: shown.fields,
+        chained: is_chained(shown.chosen, shown.fields),
+        named: shown.sample.tid,
+        pid: shown.sample.pid,
+        tid: shown.sample.tid,
+        cpu: shown.sample.cpu,
+        time: shown.sample.time,
     }
 }
 
 // Appends the columns before the period.
-fn push_head(
+fn push_front(
     text: &mut Vec<u8>,
     history: &History<'_>,
     shown: &Sampled<'_>,
 ) -> Result<(), AllocError>
     ensures { (changes : List Change) → IsHistory history.now changes →
         OnOk result (text.new.items ≡ text.old.items
-        ++ samples.head_columns changes (shown_in shown.now)) }
+        ++ samples.front_columns changes (shown_in shown.now)) }
 {
-    push_thread_if(text, history, shown)?;
-    push_cpu_if(text, shown)?;
-    push_time_if(text, shown)
+    push_head(text, history, &head_of(shown))
 }
 
-// Appends the address and what is mapped there.
+// Appends the address and, if that is chosen, what is mapped there.
 fn push_place(
     text: &mut Vec<u8>,
     history: &History<'_>,
@@ -142,7 +80,12 @@ fn push_place(
     let (mode, ip) = (shown.sample.mode, shown.sample.ip);
     text.extend_from_slice(b" ")?;
     push_address(text, ip)?;
-    push_place_column(text, mode, history.place(shown.sample.pid, mode, ip))
+    push_place_column_if(
+        text,
+        shown.chosen.dso,
+        mode,
+        history.place(shown.sample.pid, mode, ip),
+    )
 }
 
 // Appends the lines of the chain, after the end of the line before them.
@@ -156,7 +99,13 @@ fn push_chain(
         ++ samples.chain_lines changes (shown_in shown.now)) }
 {
     text.extend_from_slice(b"\n")?;
-    push_calls(text, history, shown.sample.pid, shown.calls)
+    push_calls(
+        text,
+        shown.chosen.dso,
+        history,
+        shown.sample.pid,
+        shown.calls,
+    )
 }
 
 // Appends the address, or the lines of the chain.
@@ -176,7 +125,7 @@ fn push_code(
     }
 }
 
-// Appends the same, if there is an address.
+// Appends the same, if there is an address, and it is chosen.
 fn push_code_if(
     text: &mut Vec<u8>,
     history: &History<'_>,
@@ -186,7 +135,7 @@ fn push_code_if(
         OnOk result (text.new.items ≡ text.old.items
         ++ samples.code_columns_if changes (shown_in shown.now)) }
 {
-    if has_field(shown.fields, IP) {
+    if shown.chosen.ip && has_field(shown.fields, IP) {
         push_code(text, history, shown)
     } else {
         Ok(())
@@ -200,17 +149,35 @@ pub struct Heading<'a> {
     pub label: &'a [u8],
     /// How many of its occurrences the sample stands for.
     pub period: u64,
+    /// Which fields its samples have, `PERF_SAMPLE_*`.
+    pub fields: u64,
     /// Whether its samples count.
     pub counts: bool,
 }
 
-// Appends the period, and the label of the event.
-fn push_event(text: &mut Vec<u8>, heading: Heading<'_>) -> Result<(), AllocError>
-    ensures { OnOk result (text.new.items ≡ text.old.items ++ samples.event_columns
-        heading.entry.label.now heading.entry.period) }
+// Appends the period, if it is chosen.
+fn push_period_if(text: &mut Vec<u8>, chosen: Fields, period: u64) -> Result<(), AllocError>
+    ensures { OnOk result (text.new.items ≡ text.old.items
+        ++ text_if chosen.period (period_column period)) }
 {
-    push_period(text, heading.period)?;
-    text.extend_from_slice(heading.label)
+    if chosen.period {
+        push_period(text, period)
+    } else {
+        Ok(())
+    }
+}
+
+// Appends the period, and the label of the event, each if it is chosen.
+fn push_event(text: &mut Vec<u8>, chosen: Fields, heading: Heading<'_>) -> Result<(), AllocError>
+    ensures { OnOk result (text.new.items ≡ text.old.items ++ samples.event_columns
+        chosen heading.entry.label.now heading.entry.period) }
+{
+    push_period_if(text, chosen, heading.period)?;
+    if chosen.event {
+        text.extend_from_slice(heading.label)
+    } else {
+        Ok(())
+    }
 }
 
 // Appends the end of the text.
@@ -238,8 +205,8 @@ fn push_own(
         OnOk result (text.new.items ≡ text.old.items ++ samples.own_text
         heading.entry.label.now heading.entry.period changes (shown_in shown.now)) }
 {
-    push_head(text, history, shown)?;
-    push_event(text, heading)?;
+    push_front(text, history, shown)?;
+    push_event(text, shown.chosen, heading)?;
     push_end(text, history, shown)
 }
 

@@ -19,16 +19,21 @@ ghost use Rattle.perf_walk.specs.declared.filtering.Filter as filters;
 ghost use Rattle.perf_script.specs.Counted.{IsCounted};
 ghost use Rattle.perf_script.specs.Counters as counters;
 ghost use Rattle.perf_script.specs.Headings.{heading_view};
+ghost use Rattle.perf_script.specs.Heads.{text_if};
 ghost use Rattle.perf_script.specs.Ids.{finds};
 ghost use Rattle.perf_script.specs.Labels as labels;
 ghost use Rattle.perf_script.specs.ScriptText as script;
 ghost use Rattle.perf_script.specs.Seen.{shown_in};
+ghost use Rattle.perf_script.specs.declared.fields.Style as styles;
 ghost use Rattle.perf_script.specs.UnderWay.{AreChosen, AreEvents, IsUnderWay, IsBegun, HasParts, Pushes, shown_by};
 
+use crate::fields::Style;
+use crate::heads::has_field;
 use crate::ids::Ids;
 use crate::labels::{Label, labels_of};
 use crate::readings::{Counters, Reading, push_readings};
-use crate::samples::{Heading, Sampled, has_field, push_sample};
+use crate::samples::{Heading, Sampled, push_sample};
+use crate::side_band::push_side;
 use perf_base::endian::Dynamic;
 use perf_file::{Entry, Recording};
 use perf_flat::frame::FlatFrame;
@@ -41,29 +46,33 @@ const READ: u32 = 4;
 
 const PERIOD: u32 = 8;
 
-// The events of a recording, and a filter of samples.
+// The events of a recording, a filter of samples, and which lines a text has.
 #[derive(Drop)]
 pub struct Events<'a> {
     labels: Vec<Label>,
     ids: Ids,
     filter: Filter<'a>,
+    style: Style,
 }
 
 impl<'a> Events<'a> {
     // The events of a recording.
     pub(crate) fn of(
         alloc: Global,
+        style: Style,
         filter: Filter<'a>,
         recording: &Recording<'_>,
     ) -> Result<Events<'a>, AllocError>
         ensures events { IfOk result (AreEvents (view recording.now)
             (labels.own_labels filter.entry recording.now.events.items)) }
         ensures filter { IfOk result (λ events. events.filter ≡ filter.entry) }
+        ensures style { IfOk result (λ events. events.style ≡ style) }
     {
         Ok(Events {
             labels: labels_of(alloc, &filter, recording)?,
             ids: Ids::of(alloc, recording)?,
             filter,
+            style,
         })
     }
 
@@ -91,11 +100,13 @@ fn heading_of(list: &[Label], event: usize) -> Heading<'_>
         Some(label) => Heading {
             label: &label.text,
             period: label.period,
+            fields: label.fields,
             counts: label.counts,
         },
         None => Heading {
             label: &[],
             period: 0,
+            fields: 0,
             counts: true,
         },
     }
@@ -108,6 +119,7 @@ fn with_period(heading: Heading<'_>, period: u64) -> Heading<'_>
     Heading {
         label: heading.label,
         period,
+        fields: heading.fields,
         counts: heading.counts,
     }
 }
@@ -223,7 +235,7 @@ fn push_shown(
     ensures { (f : File) (all : List labels.EventLabel) (changes : List Change)
         (older : List Reading) → AreEvents f all events.now → IsHistory history.now changes →
         IsCounted known.old older → OnOk result (IsCounted known.new
-        (script.read_by older readings.now (shown_in shown.now)) × (text.new.items ≡ text.old.items
+        (script.read_by older readings.now shown.now.fields) × (text.new.items ≡ text.old.items
         ++ script.shown_text all (table_of f.events) older readings.now event changes (shown_in shown.now))) }
 {
     if has_field(shown.fields, READ) {
@@ -270,11 +282,13 @@ fn push_parts(
     ensures { (f : File) (all : List labels.EventLabel) (changes : List Change)
         (older : List Reading) → AreEvents f all events.now → IsHistory history.now changes →
         IsCounted state.old.known older → OnOk result (IsCounted state.new.known
-        (script.read_by older state.old.readings.items (shown_by state.old fields hidden sample))
+        (script.read_by older state.old.readings.items fields)
         × (text.new.items ≡ text.old.items ++ script.shown_text all (table_of f.events) older
-        state.old.readings.items event changes (shown_by state.old fields hidden sample))) }
+        state.old.readings.items event changes
+        (shown_by state.old events.now.style.fields fields hidden sample))) }
 {
     let shown = Sampled {
+        chosen: events.style.fields,
         fields,
         hidden,
         sample,
@@ -311,7 +325,49 @@ fn is_hidden(filter: &Filter<'_>, walk: &Walk<'_, '_>, sample: &Sample) -> bool
     is_guest(walk.frame().misc) || !taken
 }
 
-// Appends the text of the sample in the frame that was found last, if there is one.
+// Appends the line of the record in the frame that was found last, which is no sample, if it has one.
+fn push_record(
+    text: &mut Vec<u8>,
+    events: &Events<'_>,
+    found: &Found<'_>,
+    walk: &Walk<'_, '_>,
+) -> Result<(), AllocError>
+    ensures { (f : File) (c : script.Choice) (m : Moment) → AreChosen f c events.now →
+        IsFrameOf f m found.now walk.now.frame → IsPast walk.now.history m.known →
+        OnOk result (text.new.items ≡ text.old.items ++ script.side_at f c m) }
+{
+    let of_event = heading_of(&events.labels, found.event).fields;
+    push_side(
+        text,
+        events.style.fields,
+        of_event,
+        walk.history(),
+        found.bytes,
+        walk.frame(),
+    )
+}
+
+// Appends the same, if it is chosen.
+fn push_record_if(
+    text: &mut Vec<u8>,
+    events: &Events<'_>,
+    found: &Found<'_>,
+    walk: &Walk<'_, '_>,
+) -> Result<(), AllocError>
+    ensures { (f : File) (c : script.Choice) (m : Moment) → AreChosen f c events.now →
+        IsFrameOf f m found.now walk.now.frame → IsPast walk.now.history m.known →
+        OnOk result (text.new.items ≡ text.old.items
+        ++ text_if c.style.side_band (script.side_at f c m)) }
+{
+    if events.style.side_band {
+        push_record(text, events, found, walk)
+    } else {
+        Ok(())
+    }
+}
+
+// Appends the text of the sample in the frame that was found last, or the line of another record, if
+// it is chosen.
 fn push_found(
     text: &mut Vec<u8>,
     events: &Events<'_>,
@@ -327,7 +383,7 @@ fn push_found(
 {
     let frame = walk.frame();
     let Some(sample) = sample_in(frame) else {
-        return Ok(());
+        return push_record_if(text, events, found, walk);
     };
     find_parts(state, walk.recording().order(), found.bytes, frame)?;
     let hidden = is_hidden(&events.filter, walk, &sample);
@@ -421,30 +477,33 @@ fn text_of_entries(
     Ok((made.text, made.refused))
 }
 
-// The text of the samples of a recording by time, and whether a frame was refused.
+// The text of the frames of a recording by time, and whether one was refused.
 pub(crate) fn text_of_events(
     alloc: Global,
     recording: &Recording<'_>,
     events: &Events<'_>,
 ) -> Result<(Vec<u8>, bool), AllocError>
-    ensures { (w : filters.Filter) (naming : ℕ → FileEvent → Name) → AreChosen (view recording.now)
-        (script.choice_by w naming (view recording.now).events) events.now →
-        IfOk result (λ made. script.IsText w (view recording.now) naming made.1 made.0.items) }
+    ensures { (style : styles.Style) (w : filters.Filter) (naming : ℕ → FileEvent → Name) →
+        AreChosen (view recording.now)
+        (script.choice_by style w naming (view recording.now).events) events.now →
+        IfOk result (λ made. script.IsText style w (view recording.now) naming made.1 made.0.items) }
 {
     let entries = recording.in_order(alloc)?;
     text_of_entries(alloc, recording, events, &entries)
 }
 
-/// The text of the samples of a recording that a filter takes, by time, and at equal times in the order
-/// of the file, and whether a frame was refused.
+/// The text of the samples of a recording that a filter takes and, if the style has these, of its other
+/// records, by time, and at equal times in the order of the file, and whether a frame was refused.
 pub fn text_of(
     alloc: Global,
+    style: Style,
     filter: Filter<'_>,
     recording: &Recording<'_>,
 ) -> Result<(Vec<u8>, bool), AllocError>
     ensures { (naming : ℕ → FileEvent → Name) → labels.AreNamedBy recording.now naming →
-        IfOk result (λ made. script.IsText filter.entry (view recording.now) naming made.1 made.0.items) }
+        IfOk result (λ made. script.IsText style filter.entry (view recording.now) naming
+        made.1 made.0.items) }
 {
-    let events = Events::of(alloc, filter, recording)?;
+    let events = Events::of(alloc, style, filter, recording)?;
     text_of_events(alloc, recording, &events)
 }

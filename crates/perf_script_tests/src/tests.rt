@@ -1,8 +1,11 @@
 //! Texts of samples of `examples/events.data` and `examples/machine.data`.
 
 use perf_history::{Change, Comm, History, Identity, Map, Mode};
-use perf_script::{Counters, Heading, Reading, Sampled, push_sample};
-use perf_walk::{Call, Sample};
+use perf_lines::outcome::Outcome;
+use perf_script::{
+    Counters, Fields, Heading, Reading, Sampled, Style, is_field_name, push_sample, write_script,
+};
+use perf_walk::{Call, Filter, Sample};
 use std::alloc::{AllocError, Global};
 use std::test::Fail;
 
@@ -12,6 +15,164 @@ const CHAINED: &[u8] =
 
 const PLAIN: &[u8] =
     b"              sh     2/2     [003]   924.414122702:    1000000 cpu-clock/freq=1000/:  ffffffff81607559 ([kernel.kallsyms])\n";
+
+// Of the same samples with `-F comm,ip` and `-F comm,event,dso`, and with `-F tid,cpu,ip`, `-F time,ip,dso`
+// and `-F pid,period,event`.
+const CHAINED_PARTS: &[u8] =
+    b"sh \n\t           1b7c9\n\t           1ab78\n\n              sh page-faults/period=7,call-graph=fp/: \n";
+
+const PLAIN_PARTS: &[u8] =
+    b"    2 [003]  ffffffff81607559\n  924.414122702:  ffffffff81607559 ([kernel.kallsyms])\n    2    1000000 cpu-clock/freq=1000/: \n";
+
+// A file of an event that has TID, TIME and CPU, and of a record of each kind that has a line: COMM, FORK,
+// MMAP, MMAP2 with an inode and with a build id, LOST, SWITCH and SWITCH_CPU_WIDE from a task and to it,
+// KSYMBOL, BPF_EVENT, CGROUP, a sample, and EXIT.
+const FILE: [u64; 128] = [
+    3622385352885552464,
+    104,
+    80,
+    104,
+    80,
+    184,
+    840,
+    0,
+    0,
+    0,
+    0,
+    0,
+    0,
+    274877906945,
+    0,
+    1000,
+    135,
+    0,
+    262144,
+    0,
+    0,
+    0,
+    0,
+    13545983254200323,
+    30064771079,
+    26739,
+    30064771079,
+    1000000001,
+    3,
+    15762598695796743,
+    30064771079,
+    30064771080,
+    1000000002,
+    30064771079,
+    1000000002,
+    3,
+    20301382695256065,
+    34359738375,
+    4096,
+    8192,
+    0,
+    121424872288047,
+    34359738375,
+    1000000003,
+    3,
+    29273406167842826,
+    34359738375,
+    4096,
+    8192,
+    0,
+    73014444040,
+    99,
+    5,
+    4294967301,
+    29400045130965551,
+    34359738375,
+    1000000004,
+    3,
+    29343774912020490,
+    34359738375,
+    4096,
+    8192,
+    0,
+    2167368315788328980,
+    7954582142665372200,
+    13741795969711506040,
+    8589934595,
+    28263150107845167,
+    34359738375,
+    1000000005,
+    3,
+    13510798882111490,
+    0,
+    12345,
+    34359738375,
+    1000000006,
+    3,
+    9042383626829838,
+    34359738375,
+    1000000007,
+    3,
+    9007199254741006,
+    0,
+    1000000008,
+    3,
+    11364552184692751,
+    42949672969,
+    34359738375,
+    1000000009,
+    3,
+    11258999068426255,
+    18446744073709551615,
+    42949672969,
+    1000000010,
+    3,
+    18014398509482001,
+    18446744072635809792,
+    4294967360,
+    7453301735283912802,
+    12639,
+    30064771079,
+    1000000011,
+    3,
+    13510798882111506,
+    141733920769,
+    0,
+    30064771079,
+    1000000012,
+    3,
+    15762598695796755,
+    7,
+    7814640847281157423,
+    6644585,
+    30064771079,
+    1000000013,
+    3,
+    11259007658360841,
+    4112,
+    34359738375,
+    1000000014,
+    3,
+    15762598695796740,
+    30064771079,
+    30064771080,
+    1000000015,
+    34359738375,
+    1000000015,
+    3,
+];
+
+// What perf prints of it by its options for these records and `-F comm,pid,tid,cpu,time,ip,dso`, and
+// without those options.
+const LINES: &[u8] =
+    b"              sh     7/7     [003]     1.000000001: PERF_RECORD_COMM exec: sh:7/7\n              sh     7/7     [003]     1.000000002: PERF_RECORD_FORK(7:8):(7:7)\n              sh     7/8     [003]     1.000000003: PERF_RECORD_MMAP 7/8: [0x1000(0x2000) @ 0]: r //anon\n              sh     7/8     [003]     1.000000004: PERF_RECORD_MMAP2 7/8: [0x1000(0x2000) @ 0 08:11 99 5]: r-xs /bin/sh\n              sh     7/8     [003]     1.000000005: PERF_RECORD_MMAP2 7/8: [0x1000(0x2000) @ 0 <000a141e28323c46505a646e78828c96a0aab4be>]: rw-p /bin/id\n              sh     7/8     [003]     1.000000006: PERF_RECORD_LOST lost 12345\n              sh     7/8     [003]     1.000000007: PERF_RECORD_SWITCH OUT        \n         swapper     0/0     [003]     1.000000008: PERF_RECORD_SWITCH IN         \n              sh     7/8     [003]     1.000000009: PERF_RECORD_SWITCH_CPU_WIDE OUT preempt  next pid/tid:     9/10   \n             :10     9/10    [003]     1.000000010: PERF_RECORD_SWITCH_CPU_WIDE IN           prev pid/tid:    -1/-1   \n              sh     7/7     [003]     1.000000011: PERF_RECORD_KSYMBOL addr ffffffffc0000000 len 64 type 1 flags 0x0 name bpf_prog_1\n              sh     7/7     [003]     1.000000012: PERF_RECORD_BPF_EVENT type 1, flags 0, id 33\n              sh     7/7     [003]     1.000000013: PERF_RECORD_CGROUP cgroup: 7 /user.slice\n              sh     7/8     [003]     1.000000014:              1010 (/bin/id)\n              sh     7/8     [003]     1.000000015: PERF_RECORD_EXIT(7:8):(7:7)\n";
+
+const SAMPLE: &[u8] =
+    b"              sh     7/8     [003]     1.000000014:              1010 (/bin/id)\n";
+
+// The fields with these names.
+fn chosen(names: &[&str]) -> Fields {
+    match Fields::named(names) {
+        Some(fields) => fields,
+        None => Fields::default(),
+    }
+}
 
 // A thread with a name, the dynamic loader in its memory, and the kernel.
 fn history<'p>(alloc: Global, tid: u32) -> Result<History<'p>, AllocError> {
@@ -52,7 +213,8 @@ fn a_sample_with_a_chain(rt: HostRuntime) -> Result<(), Fail> {
             address: 140484681202552,
         },
     ];
-    let shown = Sampled {
+    let mut shown = Sampled {
+        chosen: Fields::default(),
         fields: 0x10027,
         hidden: false,
         sample: Sample {
@@ -69,17 +231,26 @@ fn a_sample_with_a_chain(rt: HostRuntime) -> Result<(), Fail> {
     let heading = Heading {
         label: b"page-faults/period=7,call-graph=fp/: ",
         period: 7,
+        fields: 0x10027,
         counts: true,
     };
+    let history = history(rt.alloc(), 4573)?;
     let mut text = Vec::new(rt.alloc());
-    push_sample(&mut text, heading, &history(rt.alloc(), 4573)?, &shown)?;
+    push_sample(&mut text, heading, &history, &shown)?;
     assert_eq!(rt; text.as_slice(), CHAINED);
+    text.clear();
+    shown.chosen = chosen(&["ip", "comm"]);
+    push_sample(&mut text, heading, &history, &shown)?;
+    shown.chosen = chosen(&["comm", "event", "dso"]);
+    push_sample(&mut text, heading, &history, &shown)?;
+    assert_eq!(rt; text.as_slice(), CHAINED_PARTS);
     Ok(())
 }
 
 #[test]
 fn a_sample_without_a_chain_and_hidden_ones(rt: HostRuntime) -> Result<(), Fail> {
     let mut shown = Sampled {
+        chosen: Fields::default(),
         fields: 0x187,
         hidden: false,
         sample: Sample {
@@ -96,6 +267,7 @@ fn a_sample_without_a_chain_and_hidden_ones(rt: HostRuntime) -> Result<(), Fail>
     let mut heading = Heading {
         label: b"cpu-clock/freq=1000/: ",
         period: 1000000,
+        fields: 0x187,
         counts: true,
     };
     let history = history(rt.alloc(), 2)?;
@@ -107,6 +279,49 @@ fn a_sample_without_a_chain_and_hidden_ones(rt: HostRuntime) -> Result<(), Fail>
     heading.counts = false;
     push_sample(&mut text, heading, &history, &shown)?;
     assert_eq!(rt; text.as_slice(), PLAIN);
+    text.clear();
+    heading.counts = true;
+    shown.chosen = chosen(&["tid", "cpu", "ip"]);
+    push_sample(&mut text, heading, &history, &shown)?;
+    shown.chosen = chosen(&["dso", "ip", "time"]);
+    push_sample(&mut text, heading, &history, &shown)?;
+    shown.chosen = chosen(&["pid", "event", "period"]);
+    push_sample(&mut text, heading, &history, &shown)?;
+    assert_eq!(rt; text.as_slice(), PLAIN_PARTS);
+    Ok(())
+}
+
+#[test]
+fn fields_by_their_names(rt: HostRuntime) -> Result<(), Fail> {
+    let names = [
+        "comm", "pid", "tid", "cpu", "time", "period", "event", "ip", "dso",
+    ];
+    assert_eq!(rt; Fields::named(&names), Some(Fields::default()));
+    assert_eq!(rt; Fields::named(&["comm", "sym"]), None);
+    assert!(rt; is_field_name("dso"));
+    assert!(rt; !is_field_name("ds"));
+    Ok(())
+}
+
+#[test]
+fn lines_of_other_records(rt: HostRuntime) -> Result<(), Fail> {
+    let mut bytes = Vec::new(rt.alloc());
+    for word in FILE {
+        bytes.extend_from_slice(&word.to_le_bytes())?;
+    }
+    let mut style = Style {
+        fields: chosen(&["comm", "pid", "tid", "cpu", "time", "ip", "dso"]),
+        side_band: true,
+    };
+    let mut text = Vec::new(rt.alloc());
+    let ended = write_script(rt.alloc(), &bytes, style, Filter::default(), &mut text);
+    assert_eq!(rt; ended, Ok(Outcome::Clean));
+    assert_eq!(rt; text.as_slice(), LINES);
+    text.clear();
+    style.side_band = false;
+    let ended = write_script(rt.alloc(), &bytes, style, Filter::default(), &mut text);
+    assert_eq!(rt; ended, Ok(Outcome::Clean));
+    assert_eq!(rt; text.as_slice(), SAMPLE);
     Ok(())
 }
 

@@ -6,4 +6,4 @@ use Rattle.perf_script.proofs.chains.push_calls.Given as goal
 
 abbrev pub invariant-loop-call : goal.invariant-loop-call
 invariant-loop-call l =
-    (changes : List Change) → IsHistory l.history changes → l.text.items ≡ l.initial.text.items ++ call_lines changes l.pid (take l.call-index l.calls)
+    (changes : List Change) → IsHistory l.history changes → l.text.items ≡ l.initial.text.items ++ call_lines l.with_place changes l.pid (take l.call-index l.calls)

@@ -13,8 +13,8 @@ returns-then-not-any_counts g c =
     let w = c.args.filter in
     let naming = event_name c.args.bytes.now f in
     let events = c.in_ok-events.events in
-    let chosen = chosen_by w r naming events c.in_ok-recording.ensures.named c.in_ok-events.ensures.events c.in_ok-events.ensures.filter in
-    ((f, c.in_ok-recording.ensures.exact, sym (any_is f (choice_by w naming f.events) events chosen) ∙ sym c.any_counts.ensures ∙ c.if-not-any_counts.true), refl)
+    let chosen = chosen_by c.args.style w r naming events c.in_ok-recording.ensures.named c.in_ok-events.ensures.events c.in_ok-events.ensures.filter c.in_ok-events.ensures.style in
+    ((f, c.in_ok-recording.ensures.exact, sym (any_is f (choice_by c.args.style w naming f.events) events chosen) ∙ sym c.any_counts.ensures ∙ c.if-not-any_counts.true), refl)
 
 pub returns : goal.returns
 returns g c =
@@ -23,15 +23,15 @@ returns g c =
     let w = c.args.filter in
     let naming = event_name c.args.bytes.now f in
     let events = c.in_ok-events.events in
-    let chosen = chosen_by w r naming events c.in_ok-recording.ensures.named c.in_ok-events.ensures.events c.in_ok-events.ensures.filter in
-    let any = sym (any_is f (choice_by w naming f.events) events chosen) ∙ sym c.any_counts.ensures ∙ c.if-not-any_counts.false in (
+    let chosen = chosen_by c.args.style w r naming events c.in_ok-recording.ensures.named c.in_ok-events.ensures.events c.in_ok-events.ensures.filter c.in_ok-events.ensures.style in
+    let any = sym (any_is f (choice_by c.args.style w naming f.events) events chosen) ∙ sym c.any_counts.ensures ∙ c.if-not-any_counts.false in (
       f,
       c.in_ok-recording.ensures.exact,
       (
         any,
         c.in_ok-text.refused,
         c.deref.result.now,
-        subst (IsText w f naming c.in_ok-text.refused) (sym c.deref.ensures.value) (c.in_ok-text.ensures w naming chosen),
+        subst (IsText c.args.style w f naming c.in_ok-text.refused) (sym c.deref.ensures.value) (c.in_ok-text.ensures c.args.style w naming chosen),
         c.write_text.ensures,
       ),
     )

@@ -1,9 +1,9 @@
-use Rattle.std.proofs.Common.{◌≡◌, ℕ, List, ◌++◌, sym, ap, subst, ◌∙◌, append-nil}
+use Rattle.std.proofs.Common.{◌≡◌, ℕ, List, ◌++◌, sym, ap, subst, ◌∙◌}
 use Rattle.std.specs.Prelude.{Some}
 use Rattle.std.proofs.lemmas.Result.{on_ok_weaker}
 use Rattle.perf_base.specs.Dynamic.{order_of}
 use Rattle.perf_base.specs.declared.endian.Dynamic.{Dynamic}
-use Rattle.perf_file.specs.Opened.{File}
+use Rattle.perf_file.specs.Opened.{File, table_of}
 use Rattle.perf_file.specs.Views.{view}
 use Rattle.perf_flat.specs.Flat.{IsFlat}
 use Rattle.perf_flat.specs.declared.frame.FlatFrame.{FlatFrame}
@@ -12,7 +12,9 @@ use Rattle.perf_walk.specs.Plain.{IsPast}
 use Rattle.perf_walk.specs.Samples.{sample_of, sample_view}
 use Rattle.perf_walk.specs.declared.filtering.Filter.{Filter}
 use Rattle.perf_script.specs.Counted.{IsCounted}
-use Rattle.perf_script.specs.ScriptText.{sample_at, is_hidden}
+use Rattle.perf_script.specs.ScriptText.{sample_at, is_hidden, shown_text}
+use Rattle.perf_script.specs.UnderWay.{shown_by}
+use Rattle.perf_script.specs.declared.fields.Style.{Style}
 use Rattle.perf_script.specs.declared.readings.Counters.{Counters}
 use Rattle.perf_script.specs.declared.script.State.{State}
 use Rattle.perf_script.proofs.Found.{none_read, none_text, some_of, found_read, found_text, IsFound}
@@ -23,10 +25,11 @@ returns-in_default c = λ f all m older is events frame past counted.
     let flat : FlatFrame = c.frame-frame.result.now in
     let text : List ℕ = c.args.text.now.items in
     let states = subst (λ (g : FlatFrame). IsFlat m.config (order_of f.order) m.frame g) (sym c.frame-frame.ensures) frame.states in
-    let none = c.in_default.ensures m.config (order_of f.order) m.frame states in (
+    let none = c.in_default.ensures m.config (order_of f.order) m.frame states in
+    on_ok_weaker c.push_record_if.result (λ e. (
       subst (IsCounted c.args.state.now.known) (sym (none_read f older m flat.misc none)) counted,
-      sym (append-nil text) ∙ ap (λ t. text ++ t) (sym (none_text f all older m flat.misc none)),
-    )
+      e ∙ ap (λ t. text ++ t) (sym (none_text f all older m flat.misc none)),
+    )) (c.push_record_if.ensures f all m events frame past)
 
 pub returns : goal.returns
 returns c = λ f all m older is events frame past counted.
@@ -48,8 +51,9 @@ returns c = λ f all m older is events frame past counted.
     let known = subst (λ (h : History). IsPast h m.known) (sym c.history-history.ensures) past in
     let kept = subst (λ (k : Counters). IsCounted k older) (sym c.in_ok-find_parts.ensures.known) counted in
     on_ok_weaker c.push_parts.result (λ pair. (
-      subst (IsCounted c.push_parts.new.state.known) (found_read f older m flat state x c.is_hidden-hidden.result found) pair.0,
+      subst (IsCounted c.push_parts.new.state.known) (found_read f older m flat state x found) pair.0,
       pair.1
+          ∙ ap (λ (s : Style). old ++ shown_text all.labels (table_of f.events) older state.readings.items c.args.found.now.event known.0 (shown_by state s.fields flat.present c.is_hidden-hidden.result x)) events.style
           ∙ ap (λ t. old ++ t)
           (found_text f all older m flat state x c.is_hidden-hidden.result c.args.found.now.event known.0 found hides frame.event known.2),
     )) (c.push_parts.ensures f all.labels known.0 older events.labelled known.1 kept)

@@ -1,9 +1,8 @@
 use Rattle.std.proofs.Common.{◌≡◌, true, sym, ◌∙◌}
 use Rattle.perf_script.specs.ScriptText.{has_counters}
-use Rattle.perf_script.specs.Seen.{shown_in}
 use Rattle.perf_script.proofs.script.push_shown.Goals as goal
 
 pub returns-then-has_field : goal.returns-then-has_field
 returns-then-has_field c = λ f all changes older events history counted.
-    let there : has_counters (shown_in c.args.shown.now) ≡ true = sym c.has_field.ensures ∙ c.if-has_field.true in
+    let there : has_counters c.args.shown.now.fields ≡ true = sym c.has_field.ensures ∙ c.if-has_field.true in
     rw there (c.push_counters.ensures f all changes older events history counted)
