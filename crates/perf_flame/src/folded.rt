@@ -1,8 +1,6 @@
 //! Stacks with their counts.
 
-ghost use Rattle.std.specs.Prelude.{◌≡◌, ◌<◌, ◌^◌, ◌++◌, [], IfOk, OnOk, OnErr, None, map};
-ghost use Rattle.std.specs.Bool.{OnTrue, OnFalse};
-ghost use Rattle.std.specs.BTreeMap.{get_by};
+ghost use Rattle.std.specs.Prelude.{◌≡◌, ◌<◌, ◌^◌, ◌++◌, [], IfOk, OnOk, OnErr, map};
 ghost use Rattle.std.specs.Cmp.Lexicographic.{slice_cmp};
 ghost use Rattle.std.specs.List.Sorted.{IsStrictlySortedBy};
 ghost use Rattle.std.specs.Map.{keys_of};
@@ -47,29 +45,10 @@ impl Folded {
             (folded_lines self.new ≡ add_count (folded_lines self.old) stack.now count) }
         ensures kept { OnErr result (folded_lines self.new ≡ folded_lines self.old) }
     {
-        if self.add_to_present(stack, count) {
-            return Ok(());
-        }
         let owned = Vec::from_slice(self.alloc, stack)?;
-        self.counts.insert(owned, count)?;
+        let sum = self.counts.entry(owned)?.or_insert(0);
+        *sum = sum.wrapping_add(count);
         Ok(())
-    }
-
-    // Adds a count to that of a stack, if it has one, and returns whether it has.
-    fn add_to_present(&mut self, stack: &[u8], count: u64) -> bool
-        ensures added { OnTrue result
-            (folded_lines self.new ≡ add_count (folded_lines self.old) stack.now count) }
-        ensures kept { OnFalse result (folded_lines self.new ≡ folded_lines self.old) }
-        ensures absent { OnFalse result
-            (get_by (λ key. slice_cmp nat_cmp stack.now key.items) self.new.counts ≡ None) }
-    {
-        match self.counts.get_mut(stack) {
-            Some(sum) => {
-                *sum = sum.wrapping_add(count);
-                true
-            }
-            None => false,
-        }
     }
 
     /// The sum of all counts. `None` if it is 2^64 or more.

@@ -1,5 +1,5 @@
 -- The labels of events by a naming.
-use Rattle.std.proofs.Common.{◌≡◌, ℕ, suc, ◌+◌, ◌<◌, ◌||◌, Bool, List, [], ◌∷◌, map, length, get_or, refl, sym, ap, ◌∙◌, add-zero, zero-add, arith}
+use Rattle.std.proofs.Common.{◌≡◌, ℕ, suc, ◌+◌, ◌<◌, ◌||◌, List, [], ◌∷◌, map, length, get_or, refl, sym, ap, ◌∙◌, add-zero, zero-add, arith}
 use Rattle.std.specs.List.{list_any}
 use Rattle.perf_file.specs.Names.{Name, name_view, name_text}
 use Rattle.perf_file.specs.Opened.{FileEvent, event_view}

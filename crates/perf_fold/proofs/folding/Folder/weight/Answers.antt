@@ -2,7 +2,6 @@ use Rattle.std.proofs.Common.{◌∙◌, ℕ, ap}
 use Rattle.perf_base.specs.Dynamic.{order_of}
 use Rattle.perf_file.specs.Views.{view}
 use Rattle.perf_flat.specs.declared.frame.FlatFrame.{FlatFrame}
-use Rattle.perf_flat.specs.Samples.{sample_present}
 use Rattle.perf_walk.proofs.Fields.{fields_of}
 use Rattle.perf_fold.specs.EventLabels.{label_at, labels_view}
 use Rattle.perf_fold.specs.Folds.{weight_of}
