@@ -9,3 +9,4 @@ pub mod Ways
 pub mod Blocks
 pub mod Appended
 pub mod SideLines
+pub mod Parts

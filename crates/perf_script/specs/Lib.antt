@@ -19,4 +19,5 @@ pub mod Counted
 pub mod ScriptText
 pub mod UnderWay
 pub mod Messages
+pub mod Writing
 pub mod Written

@@ -1,8 +1,7 @@
 -- What is written of a file.
-use Rattle.std.specs.Prelude.{◌≡◌, ℕ, Bool, true, false, List, take, Option, Result, Ok, Err, if◌then◌else◌}
-use Rattle.std.specs.Io.KnownBytes.{Appends}
+use Rattle.std.specs.Prelude.{◌≡◌, ◌⊎◌, ℕ, Bool, true, false, List, Option, Result, Ok, Err}
 use Rattle.perf_lines.specs.declared.outcome.Outcome.{Outcome}
-use Rattle.perf_lines.specs.declared.outcome.Outcome.TheVariants as outcome
+use Rattle.std.specs.declared.alloc.AllocError.{AllocError}
 use Rattle.perf_file.specs.Forms.{opened, event_name}
 use Rattle.perf_file.specs.Opened.{File}
 use Rattle.perf_file.specs.Opens.{Fails}
@@ -11,18 +10,10 @@ use Rattle.perf_lines.specs.Outcomes.{status_of}
 use Rattle.perf_walk.specs.declared.filtering.Filter.{Filter}
 use Rattle.perf_script.specs.Labels.{any_counts, labels_by}
 use Rattle.perf_script.specs.ScriptText.{IsText}
+use Rattle.perf_script.specs.Writing.{Writes, WritesFront}
 use Rattle.perf_script.specs.declared.error.ScriptError.{ScriptError}
 use Rattle.perf_script.specs.declared.fields.Style.{Style}
 use Rattle.perf_script.specs.declared.error.ScriptError.TheVariants as errors
-
--- the outcome of a text that could be written
-abbrev pub outcome_of : (refused : Bool) → Outcome
-outcome_of refused = if refused then outcome.Refused else outcome.Clean
-
--- what was written of a text: all of it, or its beginning if writing failed
-abbrev pub Writes : Outcome → (refused : Bool) → (text : List ℕ) → (old new : Option (List ℕ)) → Type 0
-Writes outcome.Stopped refused text old new = (n : ℕ) × Appends old new (take n text)
-Writes how refused text old new = (how ≡ outcome_of refused) × Appends old new text
 
 -- what was written of a file that could be opened, by a filter that takes one of its events
 abbrev pub WritesOf : Style → Filter → File → (bytes : List ℕ) → Outcome → (old new : Option (List ℕ)) → Type 0
@@ -33,13 +24,23 @@ WritesOf style w f bytes how old new =
 abbrev pub LacksEvent : Filter → (bytes : List ℕ) → Type 0
 LacksEvent w bytes = (f : File) × (opened bytes ≡ Ok f) × (any_counts (labels_by w (event_name bytes f) f.events) ≡ false)
 
+-- what was written of a file as memory ran out: nothing, or a beginning of the text
+abbrev pub WritesSome : Style → Filter → (bytes : List ℕ) → (old new : Option (List ℕ)) → Type 0
+WritesSome style w bytes old new =
+    (new ≡ old) ⊎ ((f : File) × (opened bytes ≡ Ok f) × (refused : Bool) × (text : List ℕ) × IsText style w f (event_name bytes f) refused text × WritesFront text old new)
+
 -- What was written of the bytes of a file: the text of its samples that a filter takes and, if they are
--- chosen, of its other records, or nothing, if it cannot be opened, no event has the name that counts, or
--- memory runs out.
+-- chosen, of its other records, or nothing, if it cannot be opened, or no event has the name that counts.
 abbrev pub WritesScript : Style → Filter → List ℕ → Result Outcome ScriptError → (old new : Option (List ℕ)) → Type 0
 WritesScript style w bytes (Ok how) old new = (f : File) × (opened bytes ≡ Ok f) × WritesOf style w f bytes how old new
+WritesScript style w bytes (Err (errors.Open opens.OutOfMemory)) old new = WritesSome style w bytes old new
 WritesScript style w bytes (Err (errors.Open e)) old new = Fails e (opened bytes) × (new ≡ old)
 WritesScript style w bytes (Err errors.NoEvent) old new = LacksEvent w bytes × (new ≡ old)
+
+-- what writing the frames returns, as the whole call does
+abbrev pub script_result : Result Outcome AllocError → Result Outcome ScriptError
+script_result (Ok how) = Ok how
+script_result (Err e) = Err (errors.Open opens.OutOfMemory)
 
 -- the exit status: 2 if there is no text, 3 if memory runs out
 abbrev pub status_after : Result Outcome ScriptError → ℕ

@@ -16,6 +16,7 @@ mod samples;
 mod script;
 mod side_band;
 mod threads;
+mod writing;
 
 pub use error::ScriptError;
 pub use fields::{Fields, Style, is_field_name};

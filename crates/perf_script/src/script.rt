@@ -405,8 +405,8 @@ fn push_found(
 pub struct Script<'a, 'p> {
     walk: Walk<'a, 'p>,
     state: State,
-    text: Vec<u8>,
-    refused: bool,
+    pub(crate) text: Vec<u8>,
+    pub(crate) refused: bool,
 }
 
 // Nothing is known.
@@ -422,7 +422,7 @@ fn no_state(alloc: Global) -> State
 
 impl<'a, 'p> Script<'a, 'p> {
     // No text.
-    fn new(alloc: Global, recording: &'a Recording<'p>) -> Script<'a, 'p>
+    pub(crate) fn new(alloc: Global, recording: &'a Recording<'p>) -> Script<'a, 'p>
         ensures { IsBegun recording.now result }
     {
         Script {
@@ -446,7 +446,7 @@ impl<'a, 'p> Script<'a, 'p> {
     }
 
     // Goes on to the frame of an entry.
-    fn step(&mut self, events: &Events<'_>, entry: &Entry) -> Result<(), AllocError>
+    pub(crate) fn step(&mut self, events: &Events<'_>, entry: &Entry) -> Result<(), AllocError>
         ensures { (f : File) (c : script.Choice) (left : List Entry) (any : Bool)
             (whole : List ℕ) → AreChosen f c events.now →
             IsUnderWay f c (entry.now ∷ left) any whole self.old →
