@@ -185,8 +185,9 @@ try_deb() {
             dpkg-deb --showformat='${Package} ${Version}' --show "$package"
     done
     try "lintian has no error" lintian --no-cfg --allow-root --fail-on error "$work"/out/deb/*.deb
-    # it is unpacked like an installed package, and nothing of it is run
-    root=$work/root
+    # it is unpacked like an installed package, and nothing of it is run; dpkg looks for programs that users need not have
+    # on their path
+    root=$work/root PATH=$PATH:/usr/sbin:/sbin
     mkdir -p "$root/var/lib/dpkg/info" "$root/var/lib/dpkg/updates" && : >"$root/var/lib/dpkg/status"
     try "unpack them in a root of its own" dpkg --root="$root" --force-not-root,depends --log=/dev/null \
         --unpack "$work"/out/deb/*.deb || return
