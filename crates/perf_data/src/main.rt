@@ -16,7 +16,8 @@
 //! `flame`, `--event`, `--pid`, `--comm` and `--time` choose samples.
 //!
 //! A FILE of `-` is standard input. The whole file is read into memory, and all of its text is made
-//! before any is written, but that of `script` is written in parts; of a large file a line on standard error says so, if that is a terminal.
+//! before any is written, but that of `script` is written in parts; of a large file a line on standard
+//! error says so, if that is a terminal.
 //!
 //! The exit status is 0 if every frame and feature could be read, 1 if one was refused, 2 if the file is none of
 //! `perf record` or damaged, and for other words, and 3 if reading, writing or an allocation failed.

@@ -56,7 +56,8 @@ fn refuse_field(rt: &HostRuntime, name: &str) -> io::Result<u8> {
     Ok(2)
 }
 
-/// Prints the samples, and if they are chosen the other records, of the file that the words of `script` name, and returns the exit status.
+/// Prints the samples, and if they are chosen the other records, of the file that the words of `script`
+/// name, and returns the exit status.
 pub fn script(rt: &HostRuntime, words: &ArgMatches<'_>) -> io::Result<u8> {
     let Some(path) = words.get_str("FILE") else {
         return Ok(2);
