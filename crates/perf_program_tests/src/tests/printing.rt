@@ -580,7 +580,11 @@ fn print_by_lines(
 ) -> AnyResult<bool> {
     let input = BufReader::new(alloc, input)?;
     let parser = Parser::new(alloc, input, ParseConfig::<Little>::default());
-    let mut parser = parser.after_attribute()?;
+    let mut parser = match parser.after_attribute() {
+        Ok(parser) => parser,
+        Err(error) if error.kind().is_of_layout() => bail!("{NO_ATTRIBUTE}"),
+        Err(error) => return Err(error.into()),
+    };
     let mut clean = true;
     for _ in 0..u64::MAX {
         let Run { frames, end } = read_records(&mut parser, 256);
