@@ -26,7 +26,8 @@ short_number numbers n = low_u32 (get_or numbers n 0)
 abbrev pub named_by : (read : ℕ) → (numbers : List ℕ) → (tid : ℕ) → Option ℕ
 named_by read numbers tid =
     if read == 1 || (read == 3 || (read == 10 || read == 16)) then Some (short_number numbers 1)
-    else if read == 4 || read == 7 then Some (short_number numbers 2)
+    else if read == 4 then Some (short_number numbers 2)
+    else if read == 7 then Some (text.forked (short_number numbers 2) (short_number numbers 3))
     else if read == 2 || (read == 14 || (read == 15 || (read == 17 || (read == 18 || read == 19)))) then Some tid
     else None
 

@@ -61,6 +61,13 @@ fn has_flag(frame: &FlatFrame, bit: u32) -> bool
     (frame.misc >> bit) % 2 == 1
 }
 
+// The thread whose name the line of a FORK has.
+fn forked(tid: u32, ptid: u32) -> u32
+    ensures { result ≡ records.forked tid ptid }
+{
+    if ptid == 0 { 0 } else { tid }
+}
+
 // The thread that the line of a frame names. None if it has no line.
 pub(crate) fn named_in(frame: &FlatFrame) -> Option<u32>
     ensures { result ≡ lines.named_by frame.now.read frame.now.numbers frame.now.tid }
@@ -69,7 +76,8 @@ pub(crate) fn named_in(frame: &FlatFrame) -> Option<u32>
         PERF_RECORD_MMAP | PERF_RECORD_COMM | PERF_RECORD_MMAP2 | PERF_RECORD_NAMESPACES => {
             Some(short_number(frame, 1))
         }
-        PERF_RECORD_EXIT | PERF_RECORD_FORK => Some(short_number(frame, 2)),
+        PERF_RECORD_EXIT => Some(short_number(frame, 2)),
+        PERF_RECORD_FORK => Some(forked(short_number(frame, 2), short_number(frame, 3))),
         PERF_RECORD_LOST
         | PERF_RECORD_SWITCH
         | PERF_RECORD_SWITCH_CPU_WIDE
