@@ -149,7 +149,7 @@ lines() {
     perf script --ns -i "$1" -F "$2" "${records[@]}" >"$work/output" 2>/dev/null
     check 0 "$work/output" script --side-band -F "$2" "$1"
 }
-records=(--show-task-events --show-mmap-events --show-lost-events --show-switch-events --show-bpf-events --show-cgroup-events)
+records=(--show-task-events --show-mmap-events --show-lost-events --show-switch-events --show-namespace-events --show-bpf-events --show-cgroup-events)
 default=comm,pid,tid,time,period,event,ip,dso
 if command -v perf >/dev/null && perf script --ns -i "$file" -F $default 2>/dev/null | cmp -s - "$examples/events.script"; then
     for fields in $default comm,time,event dso,ip comm,ip time tid,ip,period pid event,comm,pid,dso; do
@@ -187,6 +187,8 @@ frames = b"".join([
     record(19, 0, struct.pack("<Q", 7) + padded("/user.slice"), (7, 7, 1_000_000_013)),
     struct.pack("<IHHQIIQII", 9, 2, 40, 0x1010, 7, 8, 1_000_000_014, 3, 0),
     record(4, 0, struct.pack("<IIIIQ", 7, 7, 8, 7, 1_000_000_015), (7, 8, 1_000_000_015)),
+    record(16, 0, struct.pack("<IIQ", 7, 8, 9) + b"".join(struct.pack("<QQ", 4 + i, 0xf0000000 * i) for i in range(9)), (7, 8, 1_000_000_016)),
+    record(16, 0, struct.pack("<IIQ", 7, 8, 0), (7, 7, 1_000_000_017)),
 ])
 head = 104
 data = head + len(attr) + 16

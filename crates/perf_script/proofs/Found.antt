@@ -1,5 +1,5 @@
 -- The text of the sample that was found in a frame.
-use Rattle.std.proofs.Common.{◌≡◌, ℕ, suc, ◌+◌, ◌<◌, ◌||◌, not, Bool, true, false, List, [], ◌∷◌, ◌++◌, map, length, drop, get_or, drop-cons, refl, sym, ◌∙◌, ap, subst, append_assoc, arith}
+use Rattle.std.proofs.Common.{◌≡◌, ℕ, suc, ◌+◌, ◌<◌, ◌||◌, not, Bool, true, false, List, ◌∷◌, ◌++◌, map, length, drop, get_or, drop-cons, refl, sym, ◌∙◌, ap, append_assoc, arith}
 use Rattle.std.specs.Prelude.{Option, Some, None, option_map}
 use Rattle.perf_base.specs.Dynamic.{order_of}
 use Rattle.perf_file.specs.IdTables.{event_of}
@@ -10,7 +10,6 @@ use Rattle.perf_flat.specs.Samples.{sample_present}
 use Rattle.perf_flat.specs.declared.frame.FlatFrame.{FlatFrame}
 use Rattle.perf_history.specs.declared.changes.Change.{Change}
 use Rattle.perf_sample_types.specs.Sample.{SampleValue}
-use Rattle.perf_walk.specs.Calls.{calls_of}
 use Rattle.perf_walk.specs.Filters.{takes_at}
 use Rattle.perf_walk.specs.Moments.{Moment}
 use Rattle.perf_walk.specs.Plain.{plain}
@@ -25,7 +24,7 @@ use Rattle.perf_script.specs.Labels.{EventLabel, label_view}
 use Rattle.perf_script.specs.Moved.{moved}
 use Rattle.perf_script.specs.Heads.{text_if}
 use Rattle.perf_script.specs.SampleText.{Shown}
-use Rattle.perf_script.specs.ScriptText.{Choice, is_guest, is_hidden, misc_at, side_at, shown_text, plain_text, read_by, read_at, text_at, sample_at, shown_at}
+use Rattle.perf_script.specs.ScriptText.{Choice, is_guest, is_hidden, misc_at, side_at, shown_text, read_by, read_at, text_at, sample_at, shown_at}
 use Rattle.perf_script.specs.UnderWay.{AreEvents, HasParts, shown_by}
 use Rattle.perf_script.specs.declared.fields.Fields.{Fields}
 use Rattle.perf_script.specs.declared.readings.Reading.{Reading}

@@ -1,12 +1,12 @@
 -- The counters that a sample has read, in its bytes and in its flat frame.
-use Rattle.std.proofs.Common.{◌≡◌, ℕ, zero, suc, ◌+◌, ◌-◌, ◌*◌, ◌/◌, ◌%◌, ◌^◌, ◌≤◌, ◌==◌, ◌&&◌, Bool, true, false, List, [], ◌∷◌, length, map, take, drop, get_or, refl, sym, ◌∙◌, ap, subst, arith, if◌then◌else◌, inl, inr}
-use Rattle.std.specs.Prelude.{Option, Some, None, Result, Ok, nat_le, option_map, option_to_list}
+use Rattle.std.proofs.Common.{◌≡◌, ℕ, zero, suc, ◌+◌, ◌-◌, ◌*◌, ◌/◌, ◌%◌, ◌^◌, ◌≤◌, ◌==◌, ◌&&◌, Bool, true, false, List, [], ◌∷◌, length, map, drop, get_or, refl, sym, ◌∙◌, ap, subst, arith, if◌then◌else◌, inl, inr}
+use Rattle.std.specs.Prelude.{Option, Some, None, nat_le, option_map, option_to_list}
 use Rattle.std.proofs.lemmas.Bool.{le-leb}
 use Rattle.std.proofs.lemmas.Bool.Decides.{eqb_tells}
 use Rattle.std.proofs.lemmas.List.{length-take-le, length-drop, drop-drop}
 use Rattle.perf_base.specs.Configuration.{Configuration, under_misc}
 use Rattle.perf_base.specs.Header.{header_of}
-use Rattle.perf_base.specs.Layout.{Parts, done, part, check, map_parts, ◌>>=◌, value, ending, size, shape_value, slice, words_of}
+use Rattle.perf_base.specs.Layout.{Parts, done, part, check, ◌>>=◌, value, ending, size, shape_value, slice, words_of}
 use Rattle.perf_base.specs.Order.{Order}
 use Rattle.perf_base.specs.Table.{slot, table, present_if}
 use Rattle.perf_flat.specs.Arrays.{filled, no_span}
@@ -15,14 +15,13 @@ use Rattle.perf_flat.specs.Samples.{HasEntries, HasCounters, group_entry_numbers
 use Rattle.perf_flat.specs.Strings.{span_at}
 use Rattle.perf_flat.specs.declared.frame.FlatFrame.{FlatFrame}
 use Rattle.perf_flat.specs.declared.frame.Span.{Span}
-use Rattle.perf_records.specs.Answers.{answer_of_frame}
 use Rattle.perf_records.specs.Bodies.{body}
-use Rattle.perf_records.specs.Records.{RecordValue, sample_is}
-use Rattle.perf_sample_types.specs.Sample.{SampleValue, FieldValue, Field, group_is, number_is, task_is, numbers_are, bytes_are, branches_are, registers_are, sample, sample_fields, fields_under, settings_of, values, is_present, at_flag_under}
+use Rattle.perf_records.specs.Records.{sample_is}
+use Rattle.perf_sample_types.specs.Sample.{SampleValue, FieldValue, group_is, number_is, task_is, numbers_are, bytes_are, branches_are, registers_are, sample, sample_fields, fields_under, settings_of, values, is_present, at_flag_under}
 use Rattle.perf_sample_types.specs.SampleGetters.{getters_of, group_in}
 use Rattle.perf_types.specs.GroupEntry.{block_len, entries_of}
 use Rattle.perf_types.specs.ReadFormat.{has_counter_id, has_lost, has_group}
-use Rattle.perf_types.specs.ReadGroup.{GroupRead, all_entries, only_entry}
+use Rattle.perf_types.specs.ReadGroup.{GroupRead, only_entry}
 use Rattle.perf_types.specs.declared.group_entry.GroupEntry.{GroupEntry}
 use Rattle.perf_words.specs.Bits.{has_bit}
 use Rattle.perf_walk.specs.Parts.{bytes_at}

@@ -8,5 +8,6 @@ pub mod Found
 pub mod Ways
 pub mod Blocks
 pub mod Appended
+pub mod NamespaceLists
 pub mod SideLines
 pub mod Parts

@@ -6,7 +6,6 @@ use Rattle.std.proofs.Math.Seq.{take-append_seam}
 use Rattle.std.proofs.lemmas.List.{take-append-drop}
 use Rattle.perf_file.specs.Opened.{File}
 use Rattle.perf_file.specs.declared.entries.Entry.{Entry}
-use Rattle.perf_history.specs.declared.changes.Change.{Change}
 use Rattle.perf_lines.specs.declared.outcome.Outcome.{Outcome}
 use Rattle.perf_lines.specs.declared.outcome.Outcome.TheVariants as outcome
 use Rattle.perf_lines.proofs.Known.{appends_more, appends_nothing}

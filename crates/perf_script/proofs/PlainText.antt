@@ -19,7 +19,7 @@ use Rattle.perf_words.specs.Bits.{has_bit}
 use Rattle.perf_script.specs.Columns.{right, task_column, address_column}
 use Rattle.perf_script.specs.Threads.{thread_name, name_width}
 use Rattle.perf_script.specs.Files.{file_name, place_name, shown_address}
-use Rattle.perf_script.specs.Chains.{placed_line, call_line, call_lines}
+use Rattle.perf_script.specs.Chains.{call_line, call_lines}
 use Rattle.perf_script.specs.Counters.{counters_text, counter_text, moved_text}
 use Rattle.perf_script.specs.Labels.{EventLabel, label_at, with_period}
 use Rattle.perf_script.specs.Moved.{moved}

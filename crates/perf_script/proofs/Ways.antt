@@ -1,15 +1,14 @@
 -- A text that is being made goes on by a frame.
-use Rattle.std.proofs.Common.{◌≡◌, ℕ, Bool, List, [], ◌∷◌, ◌++◌, ◌||◌, true, false, refl, sym, ◌∙◌, ap, subst, append-nil}
+use Rattle.std.proofs.Common.{◌≡◌, ℕ, Bool, List, [], ◌∷◌, ◌++◌, ◌||◌, true, false, refl, sym, ◌∙◌, ap, append-nil}
 use Rattle.std.specs.Prelude.{Some, None}
 use Rattle.perf_file.specs.Opened.{File}
 use Rattle.perf_file.specs.Views.{view}
 use Rattle.perf_file.specs.declared.entries.Entry.{Entry}
 use Rattle.perf_file.specs.declared.opening.Recording.{Recording}
-use Rattle.perf_history.specs.declared.changes.Change.{Change}
 use Rattle.perf_walk.specs.Moments.{Moment, moments, moment_at, known_after}
 use Rattle.perf_walk.specs.Plain.{IsPast}
 use Rattle.perf_script.specs.Counted.{IsCounted}
-use Rattle.perf_script.specs.ScriptText.{Choice, text_at, text_from, read_at, is_refused, any_refused, IsTextOf}
+use Rattle.perf_script.specs.ScriptText.{Choice, text_at, text_from, read_at, is_refused, any_refused}
 use Rattle.perf_script.specs.UnderWay.{IsUnderWay, IsBegun, Pushes}
 use Rattle.perf_script.specs.declared.script.Script.{Script}
 use Rattle.perf_script.proofs.InTurn.{text_more, text_none, refused_more, refused_none}

@@ -1,5 +1,5 @@
 -- Counters that are read in samples.
-use Rattle.std.specs.Prelude.{ℕ, ◌+◌, ◌-◌, ◌%◌, ◌^◌, ◌==◌, not, List, [], ◌∷◌, ◌++◌, map, Bool, true, false, Option, Some, None, option_map, option_to_list, if◌then◌else◌}
+use Rattle.std.specs.Prelude.{ℕ, ◌==◌, not, List, [], ◌∷◌, ◌++◌, map, Bool, true, false, Option, Some, None, option_map, option_to_list}
 use Rattle.perf_base.specs.Attribute.{or_zero}
 use Rattle.perf_file.specs.IdTables.{event_of}
 use Rattle.perf_file.specs.declared.ids.IdOfEvent.{IdOfEvent}

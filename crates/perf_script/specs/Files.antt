@@ -6,7 +6,6 @@ use Rattle.perf_history.specs.declared.changes.Mode.TheVariants.{Kernel, User, O
 use Rattle.perf_history.specs.declared.places.File.{File}
 use Rattle.perf_history.specs.declared.places.File.TheVariants.{Named, PerfMap, Symbol}
 use Rattle.perf_history.specs.declared.places.Place.{Place}
-use Rattle.perf_script.specs.Columns.{address_column}
 
 -- the file that lists the code which a process made
 abbrev pub perf_map_path : (pid : ℕ) → List ℕ

@@ -5,6 +5,7 @@ pub mod Files
 pub mod Chains
 pub mod Heads
 pub mod RecordText
+pub mod NamespaceText
 pub mod FlatLines
 pub mod SideBand
 pub mod SampleText

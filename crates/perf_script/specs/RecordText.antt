@@ -1,5 +1,5 @@
 -- The text of records that are no samples, after the columns of their lines and `PERF_RECORD_`.
-use Rattle.std.specs.Prelude.{ℕ, false, not, Bool, List, ◌++◌, codes, decimal, if◌then◌else◌}
+use Rattle.std.specs.Prelude.{ℕ, ◌==◌, false, not, Bool, List, ◌++◌, codes, decimal, if◌then◌else◌}
 use Rattle.std.specs.Fmt.{digits}
 use Rattle.std.specs.List.{flat_map}
 use Rattle.perf_text.specs.Numbers.{hex, hex_byte}
@@ -21,6 +21,11 @@ comm_text exec name pid tid = (if exec then codes "COMM exec: " else codes "COMM
 -- a thread and its parent
 abbrev pub task_text : (pid tid ppid ptid : ℕ) → List ℕ
 task_text pid tid ppid ptid = codes "(" ++ (pair (codes ":") pid tid ++ (codes "):(" ++ (pair (codes ":") ppid ptid ++ codes ")\n")))
+
+-- the thread whose name the line of a FORK has: the new one, or thread 0 if that is its parent, which has
+-- a name that it hands on, though no record gives it
+abbrev pub forked : (tid ptid : ℕ) → ℕ
+forked tid ptid = if ptid == 0 then 0 else tid
 
 -- a FORK
 abbrev pub fork_text : (pid tid ppid ptid : ℕ) → List ℕ

@@ -5,7 +5,6 @@ use Rattle.perf_base.specs.Configuration.{Configuration}
 use Rattle.perf_base.specs.Dynamic.{order_of}
 use Rattle.perf_base.specs.Header.{header_of}
 use Rattle.perf_file.specs.Entries.{entries_of, IsInOrder}
-use Rattle.perf_file.specs.IdTables.{event_of}
 use Rattle.perf_file.specs.Names.{Name}
 use Rattle.perf_file.specs.Opened.{File, FileEvent, table_of}
 use Rattle.perf_file.specs.declared.entries.Entry.{Entry}

@@ -1,5 +1,5 @@
 -- The lines of records that are no samples.
-use Rattle.std.specs.Prelude.{ℕ, List, [], ◌++◌, Option, Some, None, Result, Ok, Err, if◌then◌else◌}
+use Rattle.std.specs.Prelude.{ℕ, List, [], ◌++◌, Option, Some, None, Result, Ok, if◌then◌else◌}
 use Rattle.perf_base.specs.Attribute.{or_zero}
 use Rattle.perf_base.specs.Configuration.{Configuration}
 use Rattle.perf_base.specs.Header.{header_of}
@@ -11,16 +11,16 @@ use Rattle.perf_flat.specs.Flat.{present_of}
 use Rattle.perf_history.specs.declared.changes.Change.{Change}
 use Rattle.perf_records.specs.Answers.{FrameParts, answer_of_frame, split_of_frame}
 use Rattle.perf_records.specs.Records.{RecordValue, mmap_is, lost_is, comm_is, exit_is, fork_is, mmap2_is}
-use Rattle.perf_records.specs.Records.{switch_is, switch_cpu_wide_is, ksymbol_is, bpf_event_is, cgroup_is}
+use Rattle.perf_records.specs.Records.{switch_is, switch_cpu_wide_is, namespaces_is, ksymbol_is, bpf_event_is, cgroup_is}
 use Rattle.perf_sample_types.specs.SampleId.{SampleIdValue}
 use Rattle.perf_types.specs.Mmap.{MmapValue}
 use Rattle.perf_types.specs.Mmap2.{Mmap2Value}
 use Rattle.perf_types.specs.MmapDetail.{DetailValue, maj_of, min_of, ino_of, ino_generation_of, build_id_of}
 use Rattle.perf_types.specs.SwitchCpuWide.{other_pid, other_tid}
-use Rattle.perf_types.specs.declared.numbers.Exit.{Exit}
 use Rattle.perf_walk.specs.Changes.{or_empty}
 use Rattle.perf_words.specs.Bits.{has_bit}
 use Rattle.perf_script.specs.Heads.{is_chained, line_with}
+use Rattle.perf_script.specs.NamespaceText.{namespaces_text}
 use Rattle.perf_script.specs.RecordText as text
 use Rattle.perf_script.specs.declared.fields.Fields.{Fields}
 use Rattle.perf_script.specs.declared.heads.Head.{Head}
@@ -32,10 +32,11 @@ named_in ids (mmap_is r) = Some (low_u32 r.tid)
 named_in ids (lost_is r) = Some (or_zero ids.tid)
 named_in ids (comm_is r) = Some (low_u32 r.tid)
 named_in ids (exit_is r) = Some (low_u32 r.tid)
-named_in ids (fork_is r) = Some (low_u32 r.tid)
+named_in ids (fork_is r) = Some (text.forked (low_u32 r.tid) (low_u32 r.ptid))
 named_in ids (mmap2_is r) = Some (low_u32 r.tid)
 named_in ids switch_is = Some (or_zero ids.tid)
 named_in ids (switch_cpu_wide_is r) = Some (or_zero ids.tid)
+named_in ids (namespaces_is r) = Some (low_u32 r.tid)
 named_in ids (ksymbol_is r) = Some (or_zero ids.tid)
 named_in ids (bpf_event_is r) = Some (or_zero ids.tid)
 named_in ids (cgroup_is r) = Some (or_zero ids.tid)
@@ -68,6 +69,7 @@ record_text misc (fork_is r) = text.fork_text (low_u32 r.pid) (low_u32 r.tid) (l
 record_text misc (mmap2_is r) = mmap2_line misc r
 record_text misc switch_is = text.switch_text misc
 record_text misc (switch_cpu_wide_is r) = text.switch_wide_text misc (low_u32 (other_pid r)) (low_u32 (other_tid r))
+record_text misc (namespaces_is r) = namespaces_text (low_u32 r.pid) (low_u32 r.tid) r.namespaces
 record_text misc (ksymbol_is r) = text.ksymbol_text r.addr r.len r.ksym_type r.flags r.name
 record_text misc (bpf_event_is r) = text.bpf_text r.ty r.flags r.id
 record_text misc (cgroup_is r) = text.cgroup_text r.id r.path

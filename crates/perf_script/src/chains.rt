@@ -1,13 +1,16 @@
 //! The lines of a call chain.
 
-ghost use Rattle.std.specs.Prelude.{◌≡◌, ◌++◌, OnOk, List};
+ghost use Rattle.std.specs.Prelude.{◌≡◌, ◌++◌, ℕ, OnOk, List};
+ghost use Rattle.perf_history.specs.Histories.{place_of};
+ghost use Rattle.perf_history.specs.Memories.{IsMemory};
 ghost use Rattle.perf_history.specs.Recorded.{IsHistory};
 ghost use Rattle.perf_history.specs.declared.changes.Change.{Change};
+ghost use Rattle.perf_history.specs.declared.changes.Mode.TheVariants as modes;
 ghost use Rattle.perf_script.specs.Chains as chains;
 
 use crate::columns::push_address;
 use crate::files::{push_place_column_if, shown_address};
-use perf_history::{History, Mode, Place};
+use perf_history::{History, Memory, Mode, Place};
 use perf_walk::Call;
 use std::alloc::AllocError;
 
@@ -28,23 +31,59 @@ fn push_placed(
     text.extend_from_slice(b"\n")
 }
 
-// Appends the line of a call of a process.
-fn push_call(
+// What is mapped at an address, by the memories in which a process runs code of its own and of the
+// kernel. That of a hypervisor or a guest is not known.
+fn place_at<'p>(
+    user: &Memory<'_, 'p>,
+    kernel: &Memory<'_, 'p>,
+    mode: Mode,
+    address: u64,
+) -> Option<Place<'p>>
+    ensures { (changes : List Change) (pid : ℕ) → IsMemory user.now changes pid modes.User →
+        IsMemory kernel.now changes pid modes.Kernel → result ≡ place_of changes pid mode address }
+{
+    match mode {
+        Mode::User => user.place(address),
+        Mode::Kernel => kernel.place(address),
+        Mode::Other => None,
+    }
+}
+
+// Appends the line of a call.
+fn push_call<'p>(
     text: &mut Vec<u8>,
     with_place: bool,
-    history: &History<'_>,
-    pid: u32,
+    user: &Memory<'_, 'p>,
+    kernel: &Memory<'_, 'p>,
     call: Call,
 ) -> Result<(), AllocError>
-    ensures { (changes : List Change) → IsHistory history.now changes →
-        OnOk result (text.new.items ≡ text.old.items
-        ++ chains.call_line with_place changes pid call) }
+    ensures { (changes : List Change) (pid : ℕ) → IsMemory user.now changes pid modes.User →
+        IsMemory kernel.now changes pid modes.Kernel → OnOk result
+        (text.new.items ≡ text.old.items ++ chains.call_line with_place changes pid call) }
 {
-    let place = history.place(pid, call.mode, call.address);
+    let place = place_at(user, kernel, call.mode, call.address);
     push_placed(text, with_place, call.mode, call.address, place)
 }
 
-// Appends the lines of a chain.
+// Appends the lines of calls.
+fn push_each<'p>(
+    text: &mut Vec<u8>,
+    with_place: bool,
+    user: &Memory<'_, 'p>,
+    kernel: &Memory<'_, 'p>,
+    calls: &[Call],
+) -> Result<(), AllocError>
+    ensures { (changes : List Change) (pid : ℕ) → IsMemory user.now changes pid modes.User →
+        IsMemory kernel.now changes pid modes.Kernel → OnOk result
+        (text.new.items ≡ text.old.items ++ chains.call_lines with_place changes pid calls.now) }
+{
+    for call in calls {
+        push_call(text, with_place, user, kernel, *call)?;
+    }
+    Ok(())
+}
+
+// Appends the lines of a chain of a process, whose memories are looked up once.
 pub(crate) fn push_calls(
     text: &mut Vec<u8>,
     with_place: bool,
@@ -56,8 +95,7 @@ pub(crate) fn push_calls(
         OnOk result (text.new.items ≡ text.old.items
         ++ chains.call_lines with_place changes pid calls.now) }
 {
-    for call in calls {
-        push_call(text, with_place, history, pid, *call)?;
-    }
-    Ok(())
+    let user = history.memory(pid, Mode::User);
+    let kernel = history.memory(pid, Mode::Kernel);
+    push_each(text, with_place, &user, &kernel, calls)
 }

@@ -7,16 +7,20 @@ ghost use Rattle.perf_script.specs.Columns as columns;
 use perf_text::strip::Strip;
 use std::alloc::AllocError;
 
+// How many bytes are appended at once.
+const FILL: usize = 16;
+
 // Appends a byte so many times.
 fn push_fill(text: &mut Vec<u8>, fill: u8, count: usize) -> Result<(), AllocError>
     ensures { OnOk result (text.new.items ≡ text.old.items ++ replicate count fill) }
 {
+    let some = [fill; FILL];
     let mut left = count;
-    while left > 0 {
-        text.push(fill)?;
-        left -= 1;
+    while left > FILL {
+        text.extend_from_slice(&some)?;
+        left -= FILL;
     }
-    Ok(())
+    text.extend_from_slice(&some[..left])
 }
 
 // Appends a text in a column of a width, with spaces before it.

@@ -46,7 +46,7 @@ fn has_flag(format: u32, flag: u32) -> bool
 }
 
 // The first number of eight bytes.
-fn first_number(order: Dynamic, bytes: &[u8]) -> u64
+pub(crate) fn first_number(order: Dynamic, bytes: &[u8]) -> u64
     requires { 8 ≤ length bytes.now }
     ensures { result ≡ (order_of order).eight (take 8 bytes.now) }
 {
@@ -71,7 +71,7 @@ fn block_len(with_id: bool, with_lost: bool) -> usize
 }
 
 // The bytes after so many.
-fn bytes_after(bytes: &[u8], len: usize) -> &[u8]
+pub(crate) fn bytes_after(bytes: &[u8], len: usize) -> &[u8]
     requires { len ≤ length bytes.now }
     ensures { result.now ≡ drop len bytes.now }
 {

@@ -21,7 +21,7 @@ fn has_bit(number: u32, bit: u32) -> bool
 }
 
 // Writes two numbers with a mark between them before the text.
-fn put_pair(strip: &mut Strip, mark: &str, first: u32, second: u32)
+pub(crate) fn put_pair(strip: &mut Strip, mark: &str, first: u32, second: u32)
     requires mark { length mark.now ≤ 1 }
     requires room { 43 ≤ room_of strip.old }
     ensures text { strip_text strip.new

@@ -4,8 +4,7 @@ ghost use Rattle.std.specs.List.{list_any};
 ghost use Rattle.std.specs.Prelude.{◌≡◌, ◌<◌, ◌≤◌, ◌++◌, ◌∷◌, ℕ, Bool, [], Some, IfOk, OnOk, List, MatchOption, length, map, slice_index_or};
 ghost use Rattle.perf_base.specs.Configuration.{Configuration};
 ghost use Rattle.perf_base.specs.Dynamic.{order_of};
-ghost use Rattle.perf_file.specs.Names.{Name};
-ghost use Rattle.perf_file.specs.Opened.{File, FileEvent, table_of};
+ghost use Rattle.perf_file.specs.Opened.{File, table_of};
 ghost use Rattle.perf_file.specs.Views.{view};
 ghost use Rattle.perf_history.specs.Recorded.{IsHistory};
 ghost use Rattle.perf_history.specs.declared.changes.Change.{Change};
@@ -15,7 +14,6 @@ ghost use Rattle.perf_walk.specs.Moments.{Moment};
 ghost use Rattle.perf_walk.specs.Plain.{IsPast};
 ghost use Rattle.perf_walk.specs.Samples.{sample_of, sample_view};
 ghost use Rattle.perf_walk.specs.Steps.{IsFrameOf};
-ghost use Rattle.perf_walk.specs.declared.filtering.Filter as filters;
 ghost use Rattle.perf_script.specs.Counted.{IsCounted};
 ghost use Rattle.perf_script.specs.Counters as counters;
 ghost use Rattle.perf_script.specs.Headings.{heading_view};
@@ -24,7 +22,6 @@ ghost use Rattle.perf_script.specs.Ids.{finds};
 ghost use Rattle.perf_script.specs.Labels as labels;
 ghost use Rattle.perf_script.specs.ScriptText as script;
 ghost use Rattle.perf_script.specs.Seen.{shown_in};
-ghost use Rattle.perf_script.specs.declared.fields.Style as styles;
 ghost use Rattle.perf_script.specs.UnderWay.{AreChosen, AreEvents, IsUnderWay, IsBegun, HasParts, Pushes, shown_by};
 
 use crate::fields::Style;
@@ -332,7 +329,8 @@ fn push_record(
     found: &Found<'_>,
     walk: &Walk<'_, '_>,
 ) -> Result<(), AllocError>
-    ensures { (f : File) (c : script.Choice) (m : Moment) → AreChosen f c events.now →
+    ensures { (f : File) (c : script.Choice) (m : Moment) →
+        view walk.now.recording.now ≡ f → AreChosen f c events.now →
         IsFrameOf f m found.now walk.now.frame → IsPast walk.now.history m.known →
         OnOk result (text.new.items ≡ text.old.items ++ script.side_at f c m) }
 {
@@ -342,6 +340,7 @@ fn push_record(
         events.style.fields,
         of_event,
         walk.history(),
+        walk.recording().order(),
         found.bytes,
         walk.frame(),
     )
@@ -354,7 +353,8 @@ fn push_record_if(
     found: &Found<'_>,
     walk: &Walk<'_, '_>,
 ) -> Result<(), AllocError>
-    ensures { (f : File) (c : script.Choice) (m : Moment) → AreChosen f c events.now →
+    ensures { (f : File) (c : script.Choice) (m : Moment) →
+        view walk.now.recording.now ≡ f → AreChosen f c events.now →
         IsFrameOf f m found.now walk.now.frame → IsPast walk.now.history m.known →
         OnOk result (text.new.items ≡ text.old.items
         ++ text_if c.style.side_band (script.side_at f c m)) }
@@ -458,52 +458,4 @@ impl<'a, 'p> Script<'a, 'p> {
             None => Ok(()),
         }
     }
-}
-
-// The text of the frames of entries, and whether one of them was refused.
-fn text_of_entries(
-    alloc: Global,
-    recording: &Recording<'_>,
-    events: &Events<'_>,
-    entries: &[Entry],
-) -> Result<(Vec<u8>, bool), AllocError>
-    ensures { (c : script.Choice) → AreChosen (view recording.now) c events.now →
-        IfOk result (λ made. script.IsTextOf (view recording.now) c entries.now made.1 made.0.items) }
-{
-    let mut made = Script::new(alloc, recording);
-    for entry in entries {
-        made.step(events, entry)?;
-    }
-    Ok((made.text, made.refused))
-}
-
-// The text of the frames of a recording by time, and whether one was refused.
-pub(crate) fn text_of_events(
-    alloc: Global,
-    recording: &Recording<'_>,
-    events: &Events<'_>,
-) -> Result<(Vec<u8>, bool), AllocError>
-    ensures { (style : styles.Style) (w : filters.Filter) (naming : ℕ → FileEvent → Name) →
-        AreChosen (view recording.now)
-        (script.choice_by style w naming (view recording.now).events) events.now →
-        IfOk result (λ made. script.IsText style w (view recording.now) naming made.1 made.0.items) }
-{
-    let entries = recording.in_order(alloc)?;
-    text_of_entries(alloc, recording, events, &entries)
-}
-
-/// The text of the samples of a recording that a filter takes and, if the style has these, of its other
-/// records, by time, and at equal times in the order of the file, and whether a frame was refused.
-pub fn text_of(
-    alloc: Global,
-    style: Style,
-    filter: Filter<'_>,
-    recording: &Recording<'_>,
-) -> Result<(Vec<u8>, bool), AllocError>
-    ensures { (naming : ℕ → FileEvent → Name) → labels.AreNamedBy recording.now naming →
-        IfOk result (λ made. script.IsText style filter.entry (view recording.now) naming
-        made.1 made.0.items) }
-{
-    let events = Events::of(alloc, style, filter, recording)?;
-    text_of_events(alloc, recording, &events)
 }

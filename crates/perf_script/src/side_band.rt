@@ -1,24 +1,28 @@
 //! The lines of records that are no samples.
 
 ghost use Rattle.std.specs.Prelude.{◌≡◌, ◌++◌, ◌<◌, OnOk, List, ℕ, get_or};
+ghost use Rattle.perf_base.specs.Dynamic.{order_of};
 ghost use Rattle.perf_flat.specs.Arrays.{low_u32};
 ghost use Rattle.perf_history.specs.Recorded.{IsHistory};
 ghost use Rattle.perf_history.specs.declared.changes.Change.{Change};
 ghost use Rattle.perf_words.specs.Bits.{has_bit};
 ghost use Rattle.perf_script.specs.FlatLines as lines;
 ghost use Rattle.perf_script.specs.Heads.{line_with};
+ghost use Rattle.perf_script.specs.NamespaceText.{namespaces_text};
 ghost use Rattle.perf_script.specs.RecordText as records;
 
 use crate::fields::Fields;
 use crate::heads::{Head, is_chained, push_head};
+use crate::namespaces::push_namespaces;
 use crate::records::{
     push_bpf, push_build_id, push_cgroup, push_comm, push_exit, push_fork, push_inode,
     push_ksymbol, push_lost, push_path, push_range, push_rights, push_switch, push_switch_wide,
 };
+use perf_base::endian::Dynamic;
 use perf_base::sys::{
     PERF_RECORD_BPF_EVENT, PERF_RECORD_CGROUP, PERF_RECORD_COMM, PERF_RECORD_EXIT,
     PERF_RECORD_FORK, PERF_RECORD_KSYMBOL, PERF_RECORD_LOST, PERF_RECORD_MMAP, PERF_RECORD_MMAP2,
-    PERF_RECORD_SWITCH, PERF_RECORD_SWITCH_CPU_WIDE,
+    PERF_RECORD_NAMESPACES, PERF_RECORD_SWITCH, PERF_RECORD_SWITCH_CPU_WIDE,
 };
 use perf_flat::frame::FlatFrame;
 use perf_history::History;
@@ -57,13 +61,23 @@ fn has_flag(frame: &FlatFrame, bit: u32) -> bool
     (frame.misc >> bit) % 2 == 1
 }
 
+// The thread whose name the line of a FORK has.
+fn forked(tid: u32, ptid: u32) -> u32
+    ensures { result ≡ records.forked tid ptid }
+{
+    if ptid == 0 { 0 } else { tid }
+}
+
 // The thread that the line of a frame names. None if it has no line.
 pub(crate) fn named_in(frame: &FlatFrame) -> Option<u32>
     ensures { result ≡ lines.named_by frame.now.read frame.now.numbers frame.now.tid }
 {
     match frame.read {
-        PERF_RECORD_MMAP | PERF_RECORD_COMM | PERF_RECORD_MMAP2 => Some(short_number(frame, 1)),
-        PERF_RECORD_EXIT | PERF_RECORD_FORK => Some(short_number(frame, 2)),
+        PERF_RECORD_MMAP | PERF_RECORD_COMM | PERF_RECORD_MMAP2 | PERF_RECORD_NAMESPACES => {
+            Some(short_number(frame, 1))
+        }
+        PERF_RECORD_EXIT => Some(short_number(frame, 2)),
+        PERF_RECORD_FORK => Some(forked(short_number(frame, 2), short_number(frame, 3))),
         PERF_RECORD_LOST
         | PERF_RECORD_SWITCH
         | PERF_RECORD_SWITCH_CPU_WIDE
@@ -198,6 +212,26 @@ fn push_mmap2_in(text: &mut Vec<u8>, bytes: &[u8], frame: &FlatFrame) -> Result<
     push_use_in(text, bytes, frame)
 }
 
+// Appends a NAMESPACES.
+fn push_namespaces_in(
+    text: &mut Vec<u8>,
+    order: Dynamic,
+    bytes: &[u8],
+    frame: &FlatFrame,
+) -> Result<(), AllocError>
+    ensures { OnOk result (text.new.items ≡ text.old.items ++ namespaces_text
+        (lines.short_number frame.now.numbers 0) (lines.short_number frame.now.numbers 1)
+        (lines.namespaces_in (order_of order) (lines.string_at bytes.now frame.now 0))) }
+{
+    push_namespaces(
+        text,
+        short_number(frame, 0),
+        short_number(frame, 1),
+        order,
+        string(bytes, frame, 0),
+    )
+}
+
 // Appends a KSYMBOL.
 fn push_ksymbol_in(text: &mut Vec<u8>, bytes: &[u8], frame: &FlatFrame) -> Result<(), AllocError>
     ensures { OnOk result (text.new.items ≡ text.old.items ++ records.ksymbol_text
@@ -216,9 +250,14 @@ fn push_ksymbol_in(text: &mut Vec<u8>, bytes: &[u8], frame: &FlatFrame) -> Resul
 }
 
 // Appends the text of the record in a frame.
-fn push_record_in(text: &mut Vec<u8>, bytes: &[u8], frame: &FlatFrame) -> Result<(), AllocError>
+fn push_record_in(
+    text: &mut Vec<u8>,
+    order: Dynamic,
+    bytes: &[u8],
+    frame: &FlatFrame,
+) -> Result<(), AllocError>
     ensures { OnOk result (text.new.items ≡ text.old.items
-        ++ lines.record_in bytes.now frame.now) }
+        ++ lines.record_in (order_of order) bytes.now frame.now) }
 {
     match frame.read {
         PERF_RECORD_MMAP => push_mmap_in(text, bytes, frame),
@@ -234,6 +273,7 @@ fn push_record_in(text: &mut Vec<u8>, bytes: &[u8], frame: &FlatFrame) -> Result
             short_number(frame, 0),
             short_number(frame, 1),
         ),
+        PERF_RECORD_NAMESPACES => push_namespaces_in(text, order, bytes, frame),
         PERF_RECORD_KSYMBOL => push_ksymbol_in(text, bytes, frame),
         PERF_RECORD_BPF_EVENT => push_bpf(
             text,
@@ -267,16 +307,17 @@ fn push_line(
     text: &mut Vec<u8>,
     history: &History<'_>,
     head: &Head,
+    order: Dynamic,
     bytes: &[u8],
     frame: &FlatFrame,
 ) -> Result<(), AllocError>
     ensures { (changes : List Change) → IsHistory history.now changes →
         OnOk result (text.new.items ≡ text.old.items ++ line_with changes head.now
-        (lines.record_in bytes.now frame.now)) }
+        (lines.record_in (order_of order) bytes.now frame.now)) }
 {
     push_head(text, history, head)?;
     text.extend_from_slice(b"PERF_RECORD_")?;
-    push_record_in(text, bytes, frame)
+    push_record_in(text, order, bytes, frame)
 }
 
 // Appends the line of a frame, if it has one, of an event whose samples have these fields.
@@ -285,18 +326,20 @@ pub(crate) fn push_side(
     chosen: Fields,
     of_event: u64,
     history: &History<'_>,
+    order: Dynamic,
     bytes: &[u8],
     frame: &FlatFrame,
 ) -> Result<(), AllocError>
     ensures { (changes : List Change) → IsHistory history.now changes →
         OnOk result (text.new.items ≡ text.old.items ++ lines.line_by chosen of_event changes
-        bytes.now frame.now (lines.named_by frame.now.read frame.now.numbers frame.now.tid)) }
+        (order_of order) bytes.now frame.now (lines.named_by frame.now.read frame.now.numbers frame.now.tid)) }
 {
     match named_in(frame) {
         Some(named) => push_line(
             text,
             history,
             &head_of(chosen, of_event, named, frame),
+            order,
             bytes,
             frame,
         ),

@@ -26,15 +26,15 @@ const PLAIN_PARTS: &[u8] =
 
 // A file of an event that has TID, TIME and CPU, and of a record of each kind that has a line: COMM, FORK,
 // MMAP, MMAP2 with an inode and with a build id, LOST, SWITCH and SWITCH_CPU_WIDE from a task and to it,
-// KSYMBOL, BPF_EVENT, CGROUP, a sample, and EXIT.
-const FILE: [u64; 128] = [
+// KSYMBOL, BPF_EVENT, CGROUP, a sample, EXIT, and NAMESPACES with nine namespaces and with none.
+const FILE: [u64; 158] = [
     3622385352885552464,
     104,
     80,
     104,
     80,
     184,
-    840,
+    1080,
     0,
     0,
     0,
@@ -156,12 +156,42 @@ const FILE: [u64; 128] = [
     34359738375,
     1000000015,
     3,
+    54043195528445968,
+    34359738375,
+    9,
+    4,
+    0,
+    5,
+    4026531840,
+    6,
+    8053063680,
+    7,
+    12079595520,
+    8,
+    16106127360,
+    9,
+    20132659200,
+    10,
+    24159191040,
+    11,
+    28185722880,
+    12,
+    32212254720,
+    34359738375,
+    1000000016,
+    3,
+    13510798882111504,
+    34359738375,
+    0,
+    30064771079,
+    1000000017,
+    3,
 ];
 
 // What perf prints of it by its options for these records and `-F comm,pid,tid,cpu,time,ip,dso`, and
 // without those options.
 const LINES: &[u8] =
-    b"              sh     7/7     [003]     1.000000001: PERF_RECORD_COMM exec: sh:7/7\n              sh     7/7     [003]     1.000000002: PERF_RECORD_FORK(7:8):(7:7)\n              sh     7/8     [003]     1.000000003: PERF_RECORD_MMAP 7/8: [0x1000(0x2000) @ 0]: r //anon\n              sh     7/8     [003]     1.000000004: PERF_RECORD_MMAP2 7/8: [0x1000(0x2000) @ 0 08:11 99 5]: r-xs /bin/sh\n              sh     7/8     [003]     1.000000005: PERF_RECORD_MMAP2 7/8: [0x1000(0x2000) @ 0 <000a141e28323c46505a646e78828c96a0aab4be>]: rw-p /bin/id\n              sh     7/8     [003]     1.000000006: PERF_RECORD_LOST lost 12345\n              sh     7/8     [003]     1.000000007: PERF_RECORD_SWITCH OUT        \n         swapper     0/0     [003]     1.000000008: PERF_RECORD_SWITCH IN         \n              sh     7/8     [003]     1.000000009: PERF_RECORD_SWITCH_CPU_WIDE OUT preempt  next pid/tid:     9/10   \n             :10     9/10    [003]     1.000000010: PERF_RECORD_SWITCH_CPU_WIDE IN           prev pid/tid:    -1/-1   \n              sh     7/7     [003]     1.000000011: PERF_RECORD_KSYMBOL addr ffffffffc0000000 len 64 type 1 flags 0x0 name bpf_prog_1\n              sh     7/7     [003]     1.000000012: PERF_RECORD_BPF_EVENT type 1, flags 0, id 33\n              sh     7/7     [003]     1.000000013: PERF_RECORD_CGROUP cgroup: 7 /user.slice\n              sh     7/8     [003]     1.000000014:              1010 (/bin/id)\n              sh     7/8     [003]     1.000000015: PERF_RECORD_EXIT(7:8):(7:7)\n";
+    b"              sh     7/7     [003]     1.000000001: PERF_RECORD_COMM exec: sh:7/7\n              sh     7/7     [003]     1.000000002: PERF_RECORD_FORK(7:8):(7:7)\n              sh     7/8     [003]     1.000000003: PERF_RECORD_MMAP 7/8: [0x1000(0x2000) @ 0]: r //anon\n              sh     7/8     [003]     1.000000004: PERF_RECORD_MMAP2 7/8: [0x1000(0x2000) @ 0 08:11 99 5]: r-xs /bin/sh\n              sh     7/8     [003]     1.000000005: PERF_RECORD_MMAP2 7/8: [0x1000(0x2000) @ 0 <000a141e28323c46505a646e78828c96a0aab4be>]: rw-p /bin/id\n              sh     7/8     [003]     1.000000006: PERF_RECORD_LOST lost 12345\n              sh     7/8     [003]     1.000000007: PERF_RECORD_SWITCH OUT        \n         swapper     0/0     [003]     1.000000008: PERF_RECORD_SWITCH IN         \n              sh     7/8     [003]     1.000000009: PERF_RECORD_SWITCH_CPU_WIDE OUT preempt  next pid/tid:     9/10   \n             :10     9/10    [003]     1.000000010: PERF_RECORD_SWITCH_CPU_WIDE IN           prev pid/tid:    -1/-1   \n              sh     7/7     [003]     1.000000011: PERF_RECORD_KSYMBOL addr ffffffffc0000000 len 64 type 1 flags 0x0 name bpf_prog_1\n              sh     7/7     [003]     1.000000012: PERF_RECORD_BPF_EVENT type 1, flags 0, id 33\n              sh     7/7     [003]     1.000000013: PERF_RECORD_CGROUP cgroup: 7 /user.slice\n              sh     7/8     [003]     1.000000014:              1010 (/bin/id)\n              sh     7/8     [003]     1.000000015: PERF_RECORD_EXIT(7:8):(7:7)\n              sh     7/8     [003]     1.000000016: PERF_RECORD_NAMESPACES 7/8 - nr_namespaces: 9\n\t\t[0/net: 4/0, 1/uts: 5/0xf0000000, 2/ipc: 6/0x1e0000000, 3/pid: 7/0x2d0000000, \n\t\t 4/user: 8/0x3c0000000, 5/mnt: 9/0x4b0000000, 6/cgroup: 10/0x5a0000000, 7/UNKNOWN: 11/0x690000000, \n\t\t 8/UNKNOWN: 12/0x780000000]\n              sh     7/7     [003]     1.000000017: PERF_RECORD_NAMESPACES 7/8 - nr_namespaces: 0\n\t\t[";
 
 const SAMPLE: &[u8] =
     b"              sh     7/8     [003]     1.000000014:              1010 (/bin/id)\n";

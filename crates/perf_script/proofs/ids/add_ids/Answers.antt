@@ -1,4 +1,4 @@
-use Rattle.std.proofs.Common.{◌≡◌, ℕ, suc, ◌-◌, ◌==◌, ◌∷◌, List, length, drop, get_or, sym, ◌∙◌, ap, drop-cons, arith}
+use Rattle.std.proofs.Common.{◌≡◌, ℕ, suc, ◌-◌, ◌==◌, ◌∷◌, List, drop, get_or, sym, ◌∙◌, ap, drop-cons, arith}
 use Rattle.std.specs.Prelude.{Option, Some}
 use Rattle.std.specs.BTreeMap.{get}
 use Rattle.std.specs.Ordering.{nat_cmp}

@@ -1,5 +1,4 @@
 use Rattle.std.proofs.Common.{◌≡◌, ℕ, List, ◌++◌, sym, ap, subst, ◌∙◌}
-use Rattle.std.specs.Prelude.{Some}
 use Rattle.std.proofs.lemmas.Result.{on_ok_weaker}
 use Rattle.perf_base.specs.Dynamic.{order_of}
 use Rattle.perf_base.specs.declared.endian.Dynamic.{Dynamic}
@@ -29,7 +28,7 @@ returns-in_default c = λ f all m older is events frame past counted.
     on_ok_weaker c.push_record_if.result (λ e. (
       subst (IsCounted c.args.state.now.known) (sym (none_read f older m flat.misc none)) counted,
       e ∙ ap (λ t. text ++ t) (sym (none_text f all older m flat.misc none)),
-    )) (c.push_record_if.ensures f all m events frame past)
+    )) (c.push_record_if.ensures f all m is events frame past)
 
 pub returns : goal.returns
 returns c = λ f all m older is events frame past counted.

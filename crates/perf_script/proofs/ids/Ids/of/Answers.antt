@@ -1,4 +1,4 @@
-use Rattle.std.proofs.Common.{◌≡◌, ℕ, suc, ◌+◌, ◌-◌, ◌∷◌, List, length, drop, get_or, sym, ◌∙◌, ap, drop-cons, arith}
+use Rattle.std.proofs.Common.{◌≡◌, ℕ, suc, ◌+◌, ◌-◌, ◌∷◌, List, drop, sym, ◌∙◌, ap, drop-cons, arith}
 use Rattle.perf_file.specs.IdTables.{ids_of, event_of}
 use Rattle.perf_file.specs.declared.events.Event.{Event}
 use Rattle.perf_script.specs.Ids.{event_or}
