@@ -8,7 +8,6 @@ use crate::ffi::{self, Config, End, Frame, Place, Span};
 use crate::flags::{AuxFlags, BpfEventType, KSymbolFlags, KSymbolType};
 use crate::parsebuf::ParseBufChunk;
 use crate::records::NamespaceEntry;
-use crate::sys;
 
 /// How many bytes a header has.
 pub(crate) const HEADER: usize = 8;
@@ -73,8 +72,16 @@ fn words_copied<T: Words>(bytes: &[u8], order: Order) -> Vec<T> {
         .collect()
 }
 
+/// The last number of the types.
+macro_rules! last_number {
+    ($($variant:ident($content:ty) $visit:ident $name:ident = $number:literal;)*) => {{
+        let numbers = [$($number),*];
+        numbers[numbers.len() - 1]
+    }};
+}
+
 /// The highest type that this crate has a record of.
-const LAST_TYPE: u32 = sys::PERF_RECORD_AUX_OUTPUT_HW_ID;
+const LAST_TYPE: u32 = each_type!(last_number);
 
 /// Why no frame was written.
 #[cold]

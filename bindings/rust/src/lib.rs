@@ -87,10 +87,6 @@ pub use crate::data_source::DataSource;
 pub use crate::flags::*;
 pub use crate::frame::{frames, read_records, BadFrame, Frame, FrameIter, FramesEnd, Run, RunEnd};
 pub use crate::read::{GroupEntry, GroupIter, Read, ReadGroup, ReadValue, TryFromGroupError};
-pub use crate::records::{
-    Aux, AuxOutputHwId, BpfEvent, CGroup, Comm, Exit, Fork, ITraceStart, KSymbol, Lost,
-    LostSamples, Mmap, Mmap2, NamespaceEntry, Namespaces, Record, SampleId, SwitchCpuWide,
-    TextPoke, Throttle,
-};
+pub use crate::records::*;
 pub use crate::sample::{BranchEntry, Registers, Sample};
 pub use crate::visitor::{RecordMetadata, Visitor};

@@ -5,7 +5,7 @@ use Rattle.std.specs.List.Sorted.{IsPermutation, IsSortedByKey}
 use Rattle.perf_base.specs.Configuration.{Configuration}
 use Rattle.perf_base.specs.Dynamic.{order_of}
 use Rattle.perf_base.specs.Order.{Order}
-use Rattle.perf_lines.specs.FileText.{Words, words_of, file_line}
+use Rattle.perf_lines.specs.FileText.{Words, words_of_frame, file_line}
 use Rattle.perf_lines.specs.declared.line.file.FrameEvent.{FrameEvent}
 use Rattle.perf_lines.specs.declared.line.file.FrameEvent.TheVariants as event
 use Rattle.perf_file.specs.Entries.{config_of, time_of, by_time_then_place}
@@ -29,7 +29,7 @@ how_of f who = option_map (λ c. (c, order_of f.order)) (config_of f who)
 
 -- the words of a frame, or why it is refused
 abbrev pub words_of_piece : File → Piece → Words
-words_of_piece f p = words_of (event_of p.owner) (how_of f p.owner) (has_payload f p) p.frame
+words_of_piece f p = words_of_frame (event_of p.owner) (how_of f p.owner) (has_payload f p) p.frame
 
 -- the line of a frame, with a number
 abbrev pub piece_line : File → ℕ → Piece → List ℕ

@@ -2,7 +2,7 @@
 use Rattle.std.specs.Prelude.{ℕ, ◌++◌, ◌||◌, Bool, List, [], codes, decimal, is_err, Option, Some, None, Result, Ok, Err}
 use Rattle.std.specs.List.{flat_map}
 use Rattle.perf_base.specs.declared.endian.Dynamic.{Dynamic}
-use Rattle.perf_text.specs.Numbers.{hex_byte}
+use Rattle.perf_text.specs.Numbers.{hex_bytes}
 use Rattle.perf_file.specs.BuildIds.{Build, build_ids_of}
 use Rattle.perf_file.specs.FeatureTexts.{text_of, command_line_of, sample_times_of}
 use Rattle.perf_file.specs.Names.{escaped}
@@ -42,7 +42,7 @@ words_line words = codes "# cmdline :" ++ spaced words ++ codes "\n"
 
 -- the line of a build id: its bytes in hexadecimal, and the path of the file
 abbrev pub build_line : Build → List ℕ
-build_line b = stated_line (codes "build id") (flat_map hex_byte b.id ++ codes " " ++ printed b.filename)
+build_line b = stated_line (codes "build id") (hex_bytes b.id ++ codes " " ++ printed b.filename)
 
 -- those of several
 abbrev pub build_lines : List Build → List ℕ

@@ -1,15 +1,13 @@
 //! What perf states about the machine and the command, a line each.
 
 ghost use Rattle.std.specs.Prelude.{◌≡◌, ◌++◌, IfOk, OnOk, codes, is_err, string_bytes};
-ghost use Rattle.std.specs.List.{flat_map};
 ghost use Rattle.perf_file.specs.BuildIds.{build_of, builds_left};
 ghost use Rattle.perf_file.specs.FeatureTable.{seen};
 ghost use Rattle.perf_file.specs.FeatureTexts.{words_left};
-ghost use Rattle.perf_text.specs.Numbers.{hex_byte};
 ghost use Rattle.perf_data_text.specs.HeaderText as headers;
 
 use perf_file::{BadFeature, BuildId, BuildIds, CommandLine, EscapedBytes, Recording, SampleTimes};
-use perf_text::strip::Strip;
+use perf_text::hex_bytes::push_hex_bytes;
 use std::alloc::{AllocError, Global};
 
 /// A line for each feature that a file has of these, and whether one of them cannot be read: the name
@@ -108,26 +106,13 @@ pub fn push_command_line(
     Ok(false)
 }
 
-// Appends the two hexadecimal digits of each byte.
-fn push_hex(text: &mut String, bytes: &[u8]) -> Result<(), AllocError>
-    ensures { OnOk result (string_bytes text.new
-        ≡ string_bytes text.old ++ flat_map hex_byte bytes.now) }
-{
-    for byte in bytes {
-        let mut strip = Strip::new();
-        strip.put_hex_byte(*byte);
-        text.push_str(strip.text())?;
-    }
-    Ok(())
-}
-
 // Appends the line of a build id.
 fn push_build_id(text: &mut String, build: &BuildId<'_>) -> Result<(), AllocError>
     ensures { OnOk result (string_bytes text.new
         ≡ string_bytes text.old ++ headers.build_line (build_of build.now)) }
 {
     text.push_str("# build id : ")?;
-    push_hex(text, build.id)?;
+    push_hex_bytes(text, build.id)?;
     write!(text, " {}\n", EscapedBytes(build.filename))
 }
 

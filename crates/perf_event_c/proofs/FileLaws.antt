@@ -25,7 +25,7 @@ use Rattle.perf_file.specs.declared.summary.Outline.{Outline}
 use Rattle.perf_file.proofs.InMemory.{HasEvents, again}
 use Rattle.perf_file.proofs.PipeInMemory.{HasNoteEvents}
 use Rattle.perf_file.proofs.Sizes.{ids_fit}
-use Rattle.perf_event_c.specs.FileEvents.{flat_event, flat_events, note_events, place_by, first_place, all_at, checked_places, stated, numbers_of, IsRead, ReadsFile}
+use Rattle.perf_event_c.specs.FileEvents.{flat_event, flat_events, note_events, place_by, first_place, all_at, checked_places, stated, event_numbers, AreRead, ReadsFile}
 use Rattle.perf_event_c.specs.declared.file_events.FlatEvent.{FlatEvent}
 
 pub drop_some : {A : Type 0} (xs : List A) (i : ℕ) (d : A) → i < length xs → drop i xs ≡ get_or xs i d ∷ drop (i + 1) xs
@@ -143,14 +143,14 @@ ids_zip o bytes [] (s ∷ ss) same = absurd (omega (arith, same))
 ids_zip o bytes (a ∷ ats) [] same = absurd (omega (arith, same))
 ids_zip o bytes (a ∷ ats) (s ∷ ss) same = ap (λ xs. words_in o bytes s ∷ xs) (ids_zip o bytes ats ss (omega (arith, same)))
 
-numbers_are : (o : Dynamic) (bytes : List ℕ) (es : List (perf_event_attr × Section)) → map (stated (order_of o) bytes) (map (flat_event o) es) ≡ map (numbers_of o) (map (event_in (order_of o) bytes) es)
+numbers_are : (o : Dynamic) (bytes : List ℕ) (es : List (perf_event_attr × Section)) → map (stated (order_of o) bytes) (map (flat_event o) es) ≡ map (event_numbers o) (map (event_in (order_of o) bytes) es)
 numbers_are o bytes [] = refl
-numbers_are o bytes (e ∷ es) = ap (λ xs. numbers_of o (event_in (order_of o) bytes e) ∷ xs) (numbers_are o bytes es)
+numbers_are o bytes (e ∷ es) = ap (λ xs. event_numbers o (event_in (order_of o) bytes e) ∷ xs) (numbers_are o bytes es)
 
 -- the events of the file are those that were written
 is_read : (order : Dynamic) (bytes : List ℕ) (whole : Result File OpenError) (ats : List perf_event_attr) (ss : List Section) (events : List FlatEvent) (ids sorted : List IdOfEvent) → Opens order bytes whole ats ss → events ≡ map (flat_event order) (zip ats ss) → checked_places events ≡ Ok tt
     → ids ≡ table_in (order_of order) bytes ss → checked_table ids ≡ Ok tt → IsPermutation ids sorted → IsNonDecreasingBy (λ (e : IdOfEvent). e.id) sorted → ((id : ℕ) → event_of sorted id ≡ event_of ids id)
-    → (f : File) × (whole ≡ Ok f) × IsRead bytes f events sorted
+    → (f : File) × (whole ≡ Ok f) × AreRead bytes f events sorted
 is_read order bytes whole ats ss events ids sorted has is fine listed one moved rises found =
     let o = order_of order in
     let es = map (event_in o bytes) (zip ats ss) in
@@ -161,7 +161,7 @@ is_read order bytes whole ats ss events ids sorted has is fine listed one moved 
       there,
       record {
         all = ap (map (stated (order_of f.order) bytes)) is ∙ ap (λ (d : Dynamic). map (stated (order_of d) bytes) (map (flat_event order) (zip ats ss))) (has.order_is es) ∙ numbers_are order bytes (zip ats ss)
-            ∙ ap (λ (d : Dynamic). map (numbers_of d) es) (sym (has.order_is es)) ∙ ap (map (numbers_of f.order)) (sym (has.events_are es));
+            ∙ ap (λ (d : Dynamic). map (event_numbers d) es) (sym (has.order_is es)) ∙ ap (map (event_numbers f.order)) (sym (has.events_are es));
         same = subst (λ xs. IsPermutation xs sorted) table moved;
         table = record { sorted = rises; found = λ id. found id ∙ ap (λ xs. event_of xs id) table };
       },

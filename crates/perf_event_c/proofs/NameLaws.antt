@@ -29,7 +29,7 @@ use Rattle.perf_file.specs.NamePlaces.{first_id_at, name_at, name_or, unnamed, I
 use Rattle.perf_file.specs.declared.descriptions.EventKey.{EventKey}
 use Rattle.perf_file.specs.Sections.{IsInside}
 use Rattle.perf_file.specs.declared.section.Section.{Section}
-use Rattle.perf_event_c.specs.FileEvents.{flat_event, flat_events, stated, numbers_of, EventNumbers, IsRead, HaveIds}
+use Rattle.perf_event_c.specs.FileEvents.{flat_event, flat_events, stated, event_numbers, EventNumbers, AreRead, HaveIds}
 use Rattle.perf_event_c.specs.FlatNames.{flat_key, flat_name, described_by, nameless, AreNames, FindsNames, over}
 use Rattle.perf_event_c.proofs.NextLaws.{States, bind_ok, of_head, config_is, no_event, no_flat, same_count}
 use Rattle.perf_event_c.specs.declared.file_events.FlatEvent.{FlatEvent}
@@ -153,7 +153,7 @@ described_alike d ds bytes (e ∷ all) [] is have = absurd (no_flat d bytes e al
 described_alike d ds bytes (e ∷ all) (x ∷ es) is have =
     let P = λ (e : FlatEvent). e.ids_at + 8 * e.ids ≤ length bytes in
     let o = order_of d in
-    let a : stated o bytes e ≡ numbers_of d x = cc in
+    let a : stated o bytes e ≡ event_numbers d x = cc in
     let t : e.type_ ≡ x.attribute.type_ = ap (λ (n : EventNumbers). n.type_) a in
     let c : e.event ≡ x.attribute.config = ap (λ (n : EventNumbers). n.event) a in
     let id : first_id_at o bytes e.ids_at e.ids ≡ first_of x.ids = first_word o bytes e.ids_at e.ids (All-head P e all have) ∙ ap (λ (n : EventNumbers). first_of n.ids) a in
@@ -255,7 +255,7 @@ file_named bytes f all now plain whole states have finds n e x lt =
     ∙ sym (name_in_file bytes f n (get_or f.events n x) plain)
 
 -- the names of a pipe's events
-pub noted_is : (bytes : List ℕ) (f : File) (order : Dynamic) (all now : List FlatEvent) (ids : List IdOfEvent) → pipe_order bytes ≡ Some order → f.order ≡ order → IsRead bytes f all ids → HaveIds bytes all
+pub noted_is : (bytes : List ℕ) (f : File) (order : Dynamic) (all now : List FlatEvent) (ids : List IdOfEvent) → pipe_order bytes ≡ Some order → f.order ≡ order → AreRead bytes f all ids → HaveIds bytes all
     → ((k : ℕ) (d : FlatEvent) → k < length all → flat_name bytes (get_or now k d) ≡ named_by (last_name (order_of order) ids k (all_frames order (drop 16 bytes))) (described_by (order_of order) (or_nothing (noted_feature (order_of order) 12 (all_frames order (drop 16 bytes)))) bytes (get_or all k d)))
     → AreNames bytes f now
 noted_is bytes f order all now ids piped is read have named n e x lt =

@@ -36,7 +36,7 @@ use Rattle.perf_event_c.specs.Entries.{has_ids, first_has_ids, event_at, time_by
 use Rattle.perf_event_c.specs.Files.{flat_file}
 use Rattle.perf_event_c.specs.declared.file.FlatFile.{FlatFile}
 use Rattle.perf_event_c.specs.declared.file_entries.FlatEntry.{FlatEntry}
-use Rattle.perf_event_c.specs.FileEvents.{EventNumbers, place_by, first_place, stated, numbers_of}
+use Rattle.perf_event_c.specs.FileEvents.{EventNumbers, place_by, first_place, stated, event_numbers}
 use Rattle.perf_event_c.specs.declared.file_events.FlatEvent.{FlatEvent}
 
 -- ---- the file
@@ -115,11 +115,11 @@ is_placed bytes o f sketched whole = go (pipe_order bytes) refl
 
 -- flat events state these events
 abbrev pub States : Dynamic → List ℕ → List FlatEvent → List FileEvent → Type 0
-States o bytes all es = map (stated (order_of o) bytes) all ≡ map (numbers_of o) es
+States o bytes all es = map (stated (order_of o) bytes) all ≡ map (event_numbers o) es
 
 pub config_is : (o : Dynamic) (bytes : List ℕ) (e : FlatEvent) (x : FileEvent) (all : List FlatEvent) (es : List FileEvent) → States o bytes (e ∷ all) (x ∷ es) → (e.config ≡ flat_config_of x.attribute o) × States o bytes all es
 config_is o bytes e x all es is =
-    let a : stated (order_of o) bytes e ≡ numbers_of o x = cc in
+    let a : stated (order_of o) bytes e ≡ event_numbers o x = cc in
     let b : States o bytes all es = cc in
     (ap (λ (n : EventNumbers). n.config) a, b)
 

@@ -45,21 +45,21 @@ at_none o bytes (e ∷ all) (y ∷ es) zero is there = absurd (cc)
 at_none o bytes (e ∷ all) (y ∷ es) (suc n) is there = at_none o bytes all es n (config_is o bytes e y all es is).1 there
 
 pub has_event : (f : File) (bytes : List ℕ) (all : List FlatEvent) (e : FlatEntry) (x : FlatEvent) → States f.order bytes all f.events → reads.event_of all e ≡ Some x
-    → (a : FileEvent) × (x.config ≡ flat_config_of a.attribute f.order) × (reads.config_of f e ≡ Some (configured_by a.attribute))
+    → (a : FileEvent) × (x.config ≡ flat_config_of a.attribute f.order) × (reads.entry_config f e ≡ Some (configured_by a.attribute))
 has_event f bytes all e x is there = go (nat_eq e.owner 0) there
   where
     go : (b : Bool) → ◌≡◌ {A = Option FlatEvent} (if b then event_at all e.number else None) (Some x) → (a : FileEvent) × (x.config ≡ flat_config_of a.attribute f.order) × (◌≡◌ {A = Option Configuration} (if b then configured f.events e.number else None) (Some (configured_by a.attribute)))
     go true h = at_some f.order bytes all f.events e.number x is h
     go false h = absurd (cc)
 
-pub no_event_of : (f : File) (bytes : List ℕ) (all : List FlatEvent) (e : FlatEntry) → States f.order bytes all f.events → reads.event_of all e ≡ None → reads.config_of f e ≡ None
+pub no_event_of : (f : File) (bytes : List ℕ) (all : List FlatEvent) (e : FlatEntry) → States f.order bytes all f.events → reads.event_of all e ≡ None → reads.entry_config f e ≡ None
 no_event_of f bytes all e is there = go (nat_eq e.owner 0) there
   where
     go : (b : Bool) → ◌≡◌ {A = Option FlatEvent} (if b then event_at all e.number else None) None → ◌≡◌ {A = Option Configuration} (if b then configured f.events e.number else None) None
     go true h = at_none f.order bytes all f.events e.number is h
     go false h = refl
 
-pub foreign_entry : (f : File) (e : FlatEntry) (old new : FlatFrame) → reads.config_of f e ≡ None → new ≡ reads.refused old → reads.ReadsEntry f e old new
+pub foreign_entry : (f : File) (e : FlatEntry) (old new : FlatFrame) → reads.entry_config f e ≡ None → new ≡ reads.refused old → reads.ReadsEntry f e old new
 foreign_entry f e old new is made = record {
   read = λ c some le. absurd (let none : ◌≡◌ {A = Option Configuration} (Some c) None = sym some ∙ is in cc);
   foreign = λ h. made;
@@ -78,7 +78,7 @@ pub not_other : (o : Dynamic) (c : FlatConfig) (a : FileEvent) → c ≡ flat_co
 not_other o c a is other = let yes : is_valid c ≡ true = ap is_valid is ∙ valid o a in absurd (cc)
 
 pub entry_read : (f : File) (e : FlatEntry) (x : FlatEvent) (a : FileEvent) (config : ParseConfig Dynamic) (left : List ℕ) (old new : FlatFrame) → left ≡ left_from f e.at → Means x.config config → x.config ≡ flat_config_of a.attribute f.order
-    → reads.config_of f e ≡ Some (configured_by a.attribute) → reads.ReadsLeft config left old new → reads.ReadsEntry f e old new
+    → reads.entry_config f e ≡ Some (configured_by a.attribute) → reads.ReadsLeft config left old new → reads.ReadsEntry f e old new
 entry_read f e x a config left old new left_is means is known done =
     let fields : configuration_of config ≡ configured_by a.attribute = means.fields ∙ ap (λ (c : FlatConfig). configured_by (attribute_with c)) is in
     let order : endian_of config ≡ f.order = means.order ∙ ap (λ (c : FlatConfig). order_by c.order) is ∙ order_back f.order in

@@ -10,13 +10,13 @@ use Rattle.perf_file.specs.Opened.{File}
 use Rattle.perf_flat.specs.Flat.{IsFlat, first_frame}
 use Rattle.perf_flat.specs.declared.frame.FlatFrame.{FlatFrame}
 use Rattle.perf_event_c.specs.Entries.{event_at, left_from}
-use Rattle.perf_event_c.specs.FileEvents.{stated, numbers_of}
+use Rattle.perf_event_c.specs.FileEvents.{stated, event_numbers}
 use Rattle.perf_event_c.specs.declared.file_entries.FlatEntry.{FlatEntry}
 use Rattle.perf_event_c.specs.declared.file_events.FlatEvent.{FlatEvent}
 
 -- flat events state the events of a file
 abbrev pub States : File → List ℕ → List FlatEvent → Type 0
-States f bytes all = map (stated (order_of f.order) bytes) all ≡ map (numbers_of f.order) f.events
+States f bytes all = map (stated (order_of f.order) bytes) all ≡ map (event_numbers f.order) f.events
 
 -- a frame that is not read
 abbrev pub refused : FlatFrame → FlatFrame
@@ -27,8 +27,8 @@ abbrev pub event_of : List FlatEvent → FlatEntry → Option FlatEvent
 event_of all e = if e.owner == 0 then event_at all e.number else None
 
 -- how the frame of an entry is read, if it belongs to an event of the file
-abbrev pub config_of : File → FlatEntry → Option Configuration
-config_of f e = if e.owner == 0 then config_at f e.number else None
+abbrev pub entry_config : File → FlatEntry → Option Configuration
+entry_config f e = if e.owner == 0 then config_at f e.number else None
 
 -- the frame at the front of these bytes is read, if they are at least a header
 pub record ReadsLeft (c : ParseConfig Dynamic) (left : List ℕ) (old new : FlatFrame) : Type 0 where
@@ -38,8 +38,8 @@ pub record ReadsLeft (c : ParseConfig Dynamic) (left : List ℕ) (old new : Flat
 -- The frame of an entry is read under its own event; one that has no event, or is not in the file, is
 -- not read.
 pub record ReadsEntry (f : File) (e : FlatEntry) (old new : FlatFrame) : Type 0 where
-  pub read : (c : Configuration) → config_of f e ≡ Some c → 8 ≤ length (left_from f e.at) → IsFlat c (order_of f.order) (first_frame (order_of f.order) (left_from f e.at)) new
-  pub foreign : config_of f e ≡ None → new ≡ refused old
+  pub read : (c : Configuration) → entry_config f e ≡ Some c → 8 ≤ length (left_from f e.at) → IsFlat c (order_of f.order) (first_frame (order_of f.order) (left_from f e.at)) new
+  pub foreign : entry_config f e ≡ None → new ≡ refused old
   pub outside : length (left_from f e.at) < 8 → new ≡ refused old
 
 -- so are the first n

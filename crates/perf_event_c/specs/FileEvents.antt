@@ -79,12 +79,12 @@ abbrev pub stated : Order → List ℕ → FlatEvent → EventNumbers
 stated o bytes e = record { config = e.config; type_ = e.type_; event = e.event; ids = words_of o e.ids (drop e.ids_at bytes) }
 
 -- the same of an event of a file in that order
-abbrev pub numbers_of : Dynamic → FileEvent → EventNumbers
-numbers_of o e = record { config = flat_config_of e.attribute o; type_ = e.attribute.type_; event = e.attribute.config; ids = e.ids }
+abbrev pub event_numbers : Dynamic → FileEvent → EventNumbers
+event_numbers o e = record { config = flat_config_of e.attribute o; type_ = e.attribute.type_; event = e.attribute.config; ids = e.ids }
 
 -- flat events state the events of a file, and a table has their ids by rising numbers
-pub record IsRead (bytes : List ℕ) (f : File) (events : List FlatEvent) (ids : List IdOfEvent) : Type 0 where
-  pub all : map (stated (order_of f.order) bytes) events ≡ map (numbers_of f.order) f.events
+pub record AreRead (bytes : List ℕ) (f : File) (events : List FlatEvent) (ids : List IdOfEvent) : Type 0 where
+  pub all : map (stated (order_of f.order) bytes) events ≡ map (event_numbers f.order) f.events
   pub same : IsPermutation (table_of f.events) ids
   pub table : IsTableOf f ids
 
@@ -94,12 +94,12 @@ HaveIds bytes events = All (λ (e : FlatEvent). e.ids_at + 8 * e.ids ≤ length 
 
 -- the events of the file are read, or its refusal is returned
 abbrev pub ReadsFile : List ℕ → Result File OpenError → Result (Unit {0}) OpenError → List FlatEvent → List IdOfEvent → Type 0
-ReadsFile bytes file (Ok done) events ids = (f : File) × (file ≡ Ok f) × IsRead bytes f events ids
+ReadsFile bytes file (Ok done) events ids = (f : File) × (file ≡ Ok f) × AreRead bytes f events ids
 ReadsFile bytes file (Err e) events ids = file ≡ Err e
 
 -- the same with the refusal as a number
 abbrev pub ReadsEvents : List ℕ → Result File OpenError → ℕ → List FlatEvent → List IdOfEvent → Type 0
-ReadsEvents bytes (Ok f) result events ids = (result ≡ 0) × IsRead bytes f events ids
+ReadsEvents bytes (Ok f) result events ids = (result ≡ 0) × AreRead bytes f events ids
 ReadsEvents bytes (Err e) result events ids = result ≡ open_code e
 
 -- whether there are so many events and ids, and three parts more than events

@@ -7,7 +7,7 @@ ghost use Rattle.perf_file.specs.PipeOutlines.{form_outline};
 ghost use Rattle.perf_file.specs.declared.summary.Outline.{Outline};
 ghost use Rattle.perf_records.specs.Sights.{sight_of};
 ghost use Rattle.perf_event_c.specs.Entries as entries;
-ghost use Rattle.perf_event_c.specs.FileEvents.{IsRead};
+ghost use Rattle.perf_event_c.specs.FileEvents.{AreRead};
 ghost use Rattle.perf_event_c.specs.Files.{flat_file};
 
 use crate::ends::{CUT_HEADER, DONE, LIMIT, NOT_READ};
@@ -171,7 +171,7 @@ pub extern "C" fn ped_file_next(
     entry: &mut FlatEntry,
 ) -> u32
     ensures { (o : Outline) (f : File) → form_outline bytes.now ≡ Ok o → opened bytes.now ≡ Ok f →
-        file.now ≡ flat_file o → IsRead bytes.now f all.now ids.now →
+        file.now ≡ flat_file o → AreRead bytes.now f all.now ids.now →
         entries.ReadsNext f at.old result at.new entry.old entry.new }
 {
     let Some(order) = order_by(file.order) else {

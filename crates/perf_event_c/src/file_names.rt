@@ -19,7 +19,7 @@ ghost use Rattle.perf_file.specs.Sections.{IsInside};
 ghost use Rattle.perf_file.specs.declared.error.OpenError.{OpenError};
 ghost use Rattle.perf_file.specs.declared.head.Head.{Head};
 ghost use Rattle.perf_file.specs.declared.ids.IdOfEvent.{IdOfEvent};
-ghost use Rattle.perf_event_c.specs.FileEvents.{IsRead, HaveIds};
+ghost use Rattle.perf_event_c.specs.FileEvents.{AreRead, HaveIds};
 ghost use Rattle.perf_event_c.specs.Files.{open_code};
 ghost use Rattle.perf_event_c.specs.FlatNames as names;
 ghost use Rattle.perf_event_c.specs.declared.file_events.FlatEvent.{FlatEvent};
@@ -279,7 +279,7 @@ pub extern "C" fn ped_file_names(
         length found.old ≡ length all.old → (result ≡ 0)
         × names.FindsNames (order_of h.order) (descriptions_of bytes.now h) bytes.now
         all.old all.new }
-    ensures file { (f : File) → opened bytes.now ≡ Ok f → IsRead bytes.now f all.old ids.now →
+    ensures file { (f : File) → opened bytes.now ≡ Ok f → AreRead bytes.now f all.old ids.now →
         HaveIds bytes.now all.old → length found.old ≡ length all.old →
         names.AreNames bytes.now f all.new }
     ensures refused { (e : OpenError) → pipes.pipe_order bytes.now ≡ None →

@@ -16,7 +16,7 @@ use Rattle.perf_records.specs.Answers.{FrameParts, length_after, split_of_frame,
 use Rattle.perf_records.specs.Frames.{frame_length}
 use Rattle.perf_records.specs.Metadata.{carries_sample_id, id_length}
 use Rattle.perf_records.specs.Records.{RecordValue, sample_is}
-use Rattle.perf_records.specs.RecordTypes.{type_of}
+use Rattle.perf_records.specs.Records.{type_of}
 use Rattle.perf_sample_types.specs.SampleGetters.{sample_id_of}
 use Rattle.perf_sample_types.specs.SampleId.{SampleIdValue}
 use Rattle.perf_words.specs.Bits.{has_bit}

@@ -4,4 +4,3 @@ pub mod Progress
 pub mod Endings
 pub mod Ended
 pub mod Spaced
-mod Digits

@@ -4,18 +4,6 @@ use Rattle.std.specs.Prelude.{Option, Some, None, if◌then◌else◌}
 use Rattle.std.specs.List.{flat_map}
 pub use Rattle.perf_text.specs.Numbers.{present}
 
--- the hexadecimal digit of a number below sixteen: 48 is `0`, and 97 is `a`
-abbrev pub hex_digit : ℕ → ℕ
-hex_digit n = if nat_lt n 10 then 48 + n else 97 + (n - 10)
-
--- the two hexadecimal digits of a byte
-abbrev pub hex_byte : ℕ → List ℕ
-hex_byte b = hex_digit (b / 16) ∷ hex_digit (b % 16) ∷ []
-
--- a byte string in hexadecimal
-abbrev pub hex : List ℕ → List ℕ
-hex bytes = flat_map hex_byte bytes
-
 -- a name, `=` and a value
 abbrev pub field : List ℕ → List ℕ → List ℕ
 field name has = name ++ (codes "=" ++ has)

@@ -48,10 +48,10 @@ words_under e None h bytes = words_of_bytes e bytes
 
 -- Those of what is found where a frame begins. A header that no whole frame follows is refused, and
 -- so is a frame whose payload is cut off: bytes are missing.
-abbrev pub words_of : FrameEvent → Option (Configuration × Order) → (has_payload : Bool) → Sight → Words
-words_of e how has_payload (whole h bytes borrowed) =
+abbrev pub words_of_frame : FrameEvent → Option (Configuration × Order) → (has_payload : Bool) → Sight → Words
+words_of_frame e how has_payload (whole h bytes borrowed) =
     if has_payload then words_under e how h bytes else Err (codes "Eof")
-words_of e how has_payload (bad h refusal) = Err (kind_name (refusal_kind refusal))
+words_of_frame e how has_payload (bad h refusal) = Err (kind_name (refusal_kind refusal))
 
 -- as they are printed
 abbrev pub printed : Words → List (List ℕ)

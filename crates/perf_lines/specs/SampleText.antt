@@ -8,7 +8,8 @@ use Rattle.perf_sample_types.specs.Registers.{RegistersValue}
 use Rattle.perf_sample_types.specs.SampleGetters.{Getters}
 use Rattle.perf_words.specs.Branch.{Branch, mispred_of, predicted_of, in_tx_of, abort_of}
 use Rattle.perf_words.specs.Branch.{cycles_of, branch_type_of}
-use Rattle.perf_lines.specs.Fields.{number, field, present, word_as, word_of, words_of_numbers, hex, with_commas}
+use Rattle.perf_lines.specs.Fields.{number, field, present, word_as, word_of, words_of_numbers, with_commas}
+use Rattle.perf_text.specs.Numbers.{hex_bytes}
 
 -- ---- items of lists
 
@@ -70,11 +71,11 @@ count_words g =
 -- the raw bytes, the branches, and the registers and the stack of user space
 abbrev pub state_words : Getters → List (List ℕ)
 state_words g =
-    word_as (codes "raw") hex g.raw
+    word_as (codes "raw") hex_bytes g.raw
     ++ (word_of (codes "lbr_hw_index") g.lbr_hw_index
     ++ (word_as (codes "lbr") (with_commas branch_item) g.lbr
     ++ (register_words (codes "regs_user_abi") (codes "regs_user") g.regs_user
-    ++ word_as (codes "stack_user") hex g.stack_user)))
+    ++ word_as (codes "stack_user") hex_bytes g.stack_user)))
 
 -- the weight, the data source, the transaction, and the registers at the interrupt
 abbrev pub cost_words : Getters → List (List ℕ)
@@ -87,7 +88,7 @@ cost_words g =
 abbrev pub memory_words : Getters → List (List ℕ)
 memory_words g =
     word_of (codes "phys_addr") g.phys_addr
-    ++ (word_as (codes "aux") hex g.aux
+    ++ (word_as (codes "aux") hex_bytes g.aux
     ++ words_of_numbers ((codes "cgroup", g.cgroup) ∷ (codes "data_page_size", g.data_page_size)
     ∷ (codes "code_page_size", g.code_page_size) ∷ []))
 

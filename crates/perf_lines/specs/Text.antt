@@ -41,7 +41,8 @@ use Rattle.perf_records.specs.Records.{namespaces_is, ksymbol_is, bpf_event_is, 
 use Rattle.perf_records.specs.Records.{text_poke_is, aux_output_hw_id_is, unknown_is}
 use Rattle.perf_records.specs.Frames.{StreamEnd, done, cut_header, stream_end}
 use Rattle.perf_records.specs.Answers.{answers}
-use Rattle.perf_lines.specs.Fields.{field, number, word_of, hex, with_commas, with_spaces}
+use Rattle.perf_lines.specs.Fields.{field, number, word_of, with_commas, with_spaces}
+use Rattle.perf_text.specs.Numbers.{hex_bytes}
 use Rattle.perf_lines.specs.SampleText.{sample_words}
 
 -- ---- records
@@ -51,7 +52,7 @@ abbrev pub mmap_words : MmapValue → List (List ℕ)
 mmap_words r =
     codes "Mmap" ∷ number (codes "pid") r.pid ∷ number (codes "tid") r.tid
     ∷ number (codes "addr") r.addr ∷ number (codes "len") r.len ∷ number (codes "pgoff") r.pgoff
-    ∷ field (codes "filename") (hex r.filename) ∷ []
+    ∷ field (codes "filename") (hex_bytes r.filename) ∷ []
 
 -- how many records of an event were lost
 abbrev pub lost_words : Lost → List (List ℕ)
@@ -61,7 +62,7 @@ lost_words r = codes "Lost" ∷ number (codes "id") r.id ∷ number (codes "lost
 abbrev pub comm_words : CommValue → List (List ℕ)
 comm_words r =
     codes "Comm" ∷ number (codes "pid") r.pid ∷ number (codes "tid") r.tid
-    ∷ field (codes "comm") (hex r.comm) ∷ []
+    ∷ field (codes "comm") (hex_bytes r.comm) ∷ []
 
 -- the fields of an EXIT or a FORK
 abbrev pub exit_fields : Exit → List (List ℕ)
@@ -89,7 +90,7 @@ abbrev pub detail_words : DetailValue → List (List ℕ)
 detail_words (inode_is maj min ino ino_generation) =
     number (codes "maj") maj ∷ number (codes "min") min
     ∷ number (codes "ino") ino ∷ number (codes "ino_generation") ino_generation ∷ []
-detail_words (build_id_is id) = field (codes "build_id") (hex id) ∷ []
+detail_words (build_id_is id) = field (codes "build_id") (hex_bytes id) ∷ []
 
 -- a mapping, its file and how the memory may be used
 abbrev pub mmap2_words : Mmap2Value → List (List ℕ)
@@ -98,7 +99,7 @@ mmap2_words r =
     ∷ number (codes "addr") r.addr ∷ number (codes "len") r.len ∷ number (codes "pgoff") r.pgoff
     ∷ (detail_words r.detail
     ++ (number (codes "prot") r.prot ∷ number (codes "flags") r.flags
-    ∷ field (codes "filename") (hex r.filename) ∷ []))
+    ∷ field (codes "filename") (hex_bytes r.filename) ∷ []))
 
 -- new data in the AUX area: its offset, its length and its flags
 abbrev pub aux_words : AuxValue → List (List ℕ)
@@ -141,24 +142,24 @@ abbrev pub ksymbol_words : KSymbolValue → List (List ℕ)
 ksymbol_words r =
     codes "KSymbol" ∷ number (codes "addr") r.addr ∷ number (codes "len") r.len
     ∷ number (codes "ksym_type") r.ksym_type ∷ number (codes "flags") r.flags
-    ∷ field (codes "name") (hex r.name) ∷ []
+    ∷ field (codes "name") (hex_bytes r.name) ∷ []
 
 -- a BPF program: what happened to it, its flags, its id and its tag
 abbrev pub bpf_event_words : BpfEventValue → List (List ℕ)
 bpf_event_words r =
     codes "BpfEvent" ∷ number (codes "ty") r.ty ∷ number (codes "flags") r.flags
-    ∷ number (codes "id") r.id ∷ field (codes "tag") (hex r.tag) ∷ []
+    ∷ number (codes "id") r.id ∷ field (codes "tag") (hex_bytes r.tag) ∷ []
 
 -- a control group: its id and its path
 abbrev pub cgroup_words : CGroupValue → List (List ℕ)
 cgroup_words r =
-    codes "CGroup" ∷ number (codes "id") r.id ∷ field (codes "path") (hex r.path) ∷ []
+    codes "CGroup" ∷ number (codes "id") r.id ∷ field (codes "path") (hex_bytes r.path) ∷ []
 
 -- a change of the kernel's code: its address, the bytes before it and those after it
 abbrev pub text_poke_words : TextPokeValue → List (List ℕ)
 text_poke_words r =
-    codes "TextPoke" ∷ number (codes "addr") r.addr ∷ field (codes "old_bytes") (hex r.old_bytes)
-    ∷ field (codes "new_bytes") (hex r.new_bytes) ∷ []
+    codes "TextPoke" ∷ number (codes "addr") r.addr ∷ field (codes "old_bytes") (hex_bytes r.old_bytes)
+    ∷ field (codes "new_bytes") (hex_bytes r.new_bytes) ∷ []
 
 -- the id that the hardware gave an event
 abbrev pub aux_output_hw_id_words : AuxOutputHwId → List (List ℕ)
@@ -167,7 +168,7 @@ aux_output_hw_id_words r =
 
 -- a record of unknown type, as bytes
 abbrev pub unknown_words : List ℕ → List (List ℕ)
-unknown_words bytes = codes "Unknown" ∷ field (codes "data") (hex bytes) ∷ []
+unknown_words bytes = codes "Unknown" ∷ field (codes "data") (hex_bytes bytes) ∷ []
 
 -- the name of a record, and its fields
 abbrev pub record_words : RecordValue → List (List ℕ)

@@ -1,10 +1,12 @@
-//! ! The fields of a line.
+//! The fields of a line.
 
 ghost use Rattle.std.specs.Prelude.{◌≡◌, ◌*◌, ◌<◌, ◌≤◌, ◌++◌, length, take, decimal, string_bytes};
 ghost use Rattle.std.specs.Prelude.{OnOk, option_map, codes, IsTrue, nat_le};
 ghost use Rattle.std.specs.List.{flat_map, list_all};
-ghost use Rattle.perf_lines.specs.Fields.{hex_digit, hex, with_commas, present};
+ghost use Rattle.perf_lines.specs.Fields.{with_commas, present};
+ghost use Rattle.perf_text.specs.Numbers.{hex_bytes};
 
+use perf_text::hex_bytes::push_hex_bytes;
 use perf_text::strip::{MOST_DIGITS, ROOM, Strip};
 use std::alloc::AllocError;
 
@@ -16,12 +18,6 @@ const WORD: usize = 16;
 
 // How many numbers fit a strip, each with a word before it, after a name.
 const FIELDS: usize = (ROOM - WORD) / (MOST_DIGITS + WORD);
-
-// How many bytes are turned into digits at a time.
-const PIECE: usize = 64;
-
-// How many digits those bytes have.
-const PIECE_DIGITS: usize = 2 * PIECE;
 
 // Appends a name, and numbers, each after its own text.
 pub(crate) fn push_fields(
@@ -155,7 +151,7 @@ pub(crate) fn push_bytes(
 ) -> Result<(), AllocError>
     ensures { OnOk result (string_bytes text.new
         ≡ string_bytes text.old
-        ++ present (λ items. before.now ++ hex items)
+        ++ present (λ items. before.now ++ hex_bytes items)
         (option_map (λ items. items.now) bytes.entry)) }
 {
     match bytes {
@@ -167,43 +163,8 @@ pub(crate) fn push_bytes(
 // Appends `before` and the hexadecimal digits of bytes.
 pub(crate) fn push_hex(text: &mut String, before: &str, bytes: &[u8]) -> Result<(), AllocError>
     ensures { OnOk result (string_bytes text.new
-        ≡ string_bytes text.old ++ (before.now ++ hex bytes.now)) }
+        ≡ string_bytes text.old ++ (before.now ++ hex_bytes bytes.now)) }
 {
     text.push_str(before)?;
-    for piece in bytes.chunks(PIECE) {
-        push_digits(text, piece)?;
-    }
-    Ok(())
-}
-
-// Appends the digits of at most `PIECE` bytes.
-fn push_digits(text: &mut String, bytes: &[u8]) -> Result<(), AllocError>
-    requires { length bytes.now ≤ PIECE }
-    ensures { OnOk result (string_bytes text.new ≡ string_bytes text.old ++ hex bytes.now) }
-{
-    let mut digits = [0; PIECE_DIGITS];
-    write_digits(&mut digits, bytes);
-    text.push_str(unsafe { str::from_utf8_unchecked(&digits[..2 * bytes.len()]) })
-}
-
-// Writes two digits for each byte.
-fn write_digits(digits: &mut [u8; PIECE_DIGITS], bytes: &[u8])
-    requires { length bytes.now ≤ PIECE }
-    ensures { take (2 * length bytes.now) digits.new ≡ hex bytes.now }
-{
-    for (i, byte) in bytes.iter().enumerate() {
-        digits[2 * i] = hex_digit(*byte / 16);
-        digits[2 * i + 1] = hex_digit(*byte % 16);
-    }
-}
-
-fn hex_digit(number: u8) -> u8
-    requires { number < 16 }
-    ensures { result ≡ hex_digit number }
-{
-    if number < 10 {
-        b'0' + number
-    } else {
-        b'a' + (number - 10)
-    }
+    push_hex_bytes(text, bytes)
 }

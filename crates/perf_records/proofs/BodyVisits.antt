@@ -16,7 +16,7 @@ use Rattle.perf_records.specs.Records.{RecordValue}
 use Rattle.perf_buffers.specs.Buffer.{Source}
 use Rattle.perf_reader.specs.Calls.{Call}
 use Rattle.perf_reader.specs.declared.reader.Reader.{Reader}
-use Rattle.perf_records.specs.RecordTypes.{type_of}
+use Rattle.perf_records.specs.Records.{type_of}
 use Rattle.perf_records.specs.declared.record_type.RecordType.{RecordType}
 use Rattle.perf_records.specs.Gives.{Event, GivesOf, GivesBody, GivesWholeBody, GivesExactly}
 use Rattle.perf_records.proofs.LayoutResults.{took_result, quit_result}

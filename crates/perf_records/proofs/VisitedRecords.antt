@@ -15,7 +15,7 @@ use Rattle.perf_reader.specs.Reading.{CallInvariant}
 use Rattle.perf_records.specs.Answers.{ReadsFrameAfter}
 use Rattle.perf_records.specs.Records.{IsBorrowed, sample_is, sample_value}
 use Rattle.perf_records.specs.Metadata.{MetadataValue}
-use Rattle.perf_records.specs.RecordTypes.{type_of}
+use Rattle.perf_records.specs.Records.{type_of}
 use Rattle.perf_records.specs.Gives.{Event, event, GivesRecord, IsRecordOf, IsSampleOf, IsSampleIn, is_borrowed_sample, GivesBody, GivesType, GivesFrameAfter, BelongsTo}
 use Rattle.perf_records.specs.declared.record.Record.TheVariants as record_of
 use Rattle.perf_records.specs.declared.record_type.RecordType.TheVariants as type

@@ -3,7 +3,7 @@ use Rattle.std.specs.Prelude.{ℕ, Bool, false, Option, Some, None}
 use Rattle.perf_base.specs.Configuration.{Configuration}
 use Rattle.perf_base.specs.FieldWords.{all_left}
 use Rattle.perf_base.specs.Layout.{Parts, done, map_parts}
-use Rattle.perf_records.specs.RecordTypes.{type_of, type_needs_memory}
+use Rattle.perf_records.specs.Records.{type_of, type_needs_memory}
 use Rattle.perf_records.specs.Records.{RecordValue, mmap_is, lost_is}
 use Rattle.perf_records.specs.Records.{comm_is, exit_is, throttle_is, unthrottle_is, fork_is}
 use Rattle.perf_records.specs.Records.{read_is, sample_is, mmap2_is, aux_is, itrace_start_is}

@@ -20,7 +20,7 @@ use Rattle.perf_records.specs.Answers.{frame_reads}
 use Rattle.perf_records.specs.Bodies.{body_of_type, needs_memory_of_type, needs_memory}
 use Rattle.perf_records.specs.Frames.{frame_length}
 use Rattle.perf_records.specs.Metadata.{MetadataValue}
-use Rattle.perf_records.specs.RecordTypes.{type_of}
+use Rattle.perf_records.specs.Records.{type_of}
 use Rattle.perf_records.specs.Records.{RecordValue, record_value, IsBorrowed, sample_is, mmap_is}
 use Rattle.perf_records.specs.Records.{mmap2_is, sample_value}
 use Rattle.perf_sample_types.specs.SampleGroups.{IsBorrowedSample}

@@ -8,7 +8,7 @@ ghost use Rattle.perf_buffers.specs.Prelude.{chunk_bytes, chunk_is_borrowed};
 ghost use Rattle.perf_records.specs.Answers.{split_after};
 ghost use Rattle.perf_records.specs.FrameReadings.{FrameGives, FrameGivesOrBad, HasNoRoom, PutsSample};
 ghost use Rattle.perf_records.specs.FrameReadings.{TakesNoMemory, metadata_in};
-ghost use Rattle.perf_records.specs.RecordTypes.{type_of};
+ghost use Rattle.perf_records.specs.Records.{type_of};
 ghost use Rattle.perf_records.specs.Prelude.{configuration_of, endian_of, IsRecordOf, NoRoomForId};
 ghost use Rattle.perf_records.specs.Prelude.{NeedsNoMemory};
 ghost use Rattle.perf_sample_types.specs.SampleEmpty.{no_sample};

@@ -14,7 +14,5 @@ pub mod metadata;
 pub mod partial;
 pub mod parts;
 pub mod record;
-mod record_clone;
 pub mod record_type;
-pub mod record_visitor;
 pub mod visitor;

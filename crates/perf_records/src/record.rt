@@ -1,8 +1,9 @@
 //! Records of any type.
 
 ghost use Rattle.std.specs.Prelude.{◌≡◌, IfOk, IfErr};
+ghost use Rattle.perf_base.specs.Copies.{IsClone};
 ghost use Rattle.perf_base.specs.Errors.{kind_of};
-ghost use Rattle.perf_records.specs.Records.{HoldsSample};
+ghost use Rattle.perf_records.specs.Records.{record_value, record_form, HoldsSample};
 ghost use Rattle.perf_records.specs.declared.record.Record.TheVariants as record_of;
 
 use perf_base::{CowSlice, ErrorKind, ParseResult};
@@ -197,4 +198,48 @@ impl From<AuxOutputHwId> for Record<'_> {
     fn from(content: AuxOutputHwId) -> Self {
         Record::AuxOutputHwId(content)
     }
+}
+
+impl<'a> Record<'a> {
+    /// The same record. It allocates nothing if all of its lists are borrowed, except for the box
+    /// of a sample. A failed allocation is `OutOfMemory`, and the record stays as it is.
+    pub fn clone(&self, alloc: Global) -> ParseResult<Record<'a>>
+        ensures { IsClone record_value record_form self.now result }
+    {
+        match self {
+            Record::Mmap(record) => Ok(Record::Mmap(record.clone(alloc)?)),
+            Record::Lost(record) => Ok(Record::Lost(*record)),
+            Record::Comm(record) => Ok(Record::Comm(record.clone(alloc)?)),
+            Record::Exit(record) => Ok(Record::Exit(record.clone()?)),
+            Record::Throttle(record) => Ok(Record::Throttle(record.clone()?)),
+            Record::Unthrottle(record) => Ok(Record::Unthrottle(record.clone()?)),
+            Record::Fork(record) => Ok(Record::Fork(record.clone()?)),
+            Record::Read(record) => Ok(Record::Read(record.clone()?)),
+            Record::Sample(record) => {
+                let copy = (**record).clone(alloc)?;
+                Ok(Record::Sample(Box::new(alloc, copy)?))
+            }
+            Record::Mmap2(record) => Ok(Record::Mmap2(record.clone(alloc)?)),
+            Record::Aux(record) => Ok(Record::Aux(record.clone()?)),
+            Record::ITraceStart(record) => Ok(Record::ITraceStart(record.clone()?)),
+            Record::LostSamples(record) => Ok(Record::LostSamples(record.clone()?)),
+            Record::Switch => Ok(Record::Switch),
+            Record::SwitchCpuWide(record) => Ok(Record::SwitchCpuWide(*record)),
+            Record::Namespaces(record) => Ok(Record::Namespaces(record.clone(alloc)?)),
+            Record::KSymbol(record) => Ok(Record::KSymbol(record.clone(alloc)?)),
+            Record::BpfEvent(record) => Ok(Record::BpfEvent(*record)),
+            Record::CGroup(record) => Ok(Record::CGroup(record.clone(alloc)?)),
+            Record::TextPoke(record) => Ok(Record::TextPoke(record.clone(alloc)?)),
+            Record::AuxOutputHwId(record) => Ok(Record::AuxOutputHwId(*record)),
+            Record::Unknown { ty, bytes } => clone_unknown(*ty, bytes, alloc),
+        }
+    }
+}
+
+// The same bytes, for a type that has no table.
+fn clone_unknown<'a>(ty: u32, bytes: &CowSlice<'a, u8>, alloc: Global) -> ParseResult<Record<'a>>
+    ensures { IsClone record_value record_form (record_of.Unknown ty bytes.now) result }
+{
+    let bytes = bytes.clone(alloc)?;
+    Ok(Record::Unknown { ty, bytes })
 }

@@ -1,7 +1,7 @@
 //! The types of records.
 
 ghost use Rattle.std.specs.Prelude.{◌≡◌};
-ghost use Rattle.perf_records.specs.RecordTypes.{type_of};
+ghost use Rattle.perf_records.specs.Records.{type_of};
 
 use perf_base::sys::{
     PERF_RECORD_AUX, PERF_RECORD_AUX_OUTPUT_HW_ID, PERF_RECORD_BPF_EVENT, PERF_RECORD_CGROUP,

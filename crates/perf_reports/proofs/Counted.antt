@@ -34,7 +34,7 @@ use Rattle.perf_records.specs.Bodies.{body, body_of_type, unread}
 use Rattle.perf_records.specs.FrameReadings.{FrameGivesOrBad, PutsSample, metadata_in}
 use Rattle.perf_records.specs.Metadata.{MetadataValue, id_length}
 use Rattle.perf_records.specs.declared.frame_handler.BadFrame.{BadFrame}
-use Rattle.perf_records.specs.RecordTypes.{type_of}
+use Rattle.perf_records.specs.Records.{type_of}
 use Rattle.perf_records.specs.Answers.{FrameParts, parts_of, length_after, split_after, record_in, answer_after, answer_of_frame, answers}
 use Rattle.perf_records.specs.Frames.{frame_length, first_frames, frames, drop_frames}
 use Rattle.perf_records.specs.Records.{RecordValue, sample_is}

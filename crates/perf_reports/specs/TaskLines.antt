@@ -15,7 +15,7 @@ use Rattle.perf_types.specs.MmapDetail.{DetailValue, inode_is, build_id_is}
 use Rattle.perf_types.specs.Namespaces.{NamespacesValue}
 use Rattle.perf_records.specs.Records.{RecordValue, comm_is, mmap_is, mmap2_is, fork_is, exit_is}
 use Rattle.perf_records.specs.Records.{namespaces_is}
-use Rattle.perf_text.specs.Numbers.{hex, hex_byte}
+use Rattle.perf_text.specs.Numbers.{hex, hex_byte, hex_bytes}
 
 -- ---- words
 
@@ -47,7 +47,7 @@ inode maj min ino generation =
 -- the file of a mapping: its inode, or the digits of its build id
 abbrev pub file : DetailValue → List ℕ
 file (inode_is maj min ino generation) = inode maj min ino generation
-file (build_id_is id) = flat_map hex_byte id
+file (build_id_is id) = hex_bytes id
 
 -- a namespace: the device and the inode of its file
 abbrev pub namespace : NamespaceEntry → List ℕ

@@ -5,7 +5,7 @@ ghost use Rattle.perf_base.specs.Configured.{configuration_of, endian_of};
 ghost use Rattle.perf_base.specs.Errors.{kind_of};
 ghost use Rattle.perf_buffers.specs.Prelude.{chunk_bytes};
 ghost use Rattle.perf_records.specs.Answers.{answer_after};
-ghost use Rattle.perf_records.specs.RecordTypes.{type_of};
+ghost use Rattle.perf_records.specs.Records.{type_of};
 ghost use Rattle.perf_reports.specs.Counting.{counts_of, CountsSight, EndsBy, IsRefused, RefusesSight};
 ghost use Rattle.perf_reports.specs.Counting.{SumsAnswer, bad_kinds};
 

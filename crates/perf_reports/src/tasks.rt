@@ -4,13 +4,13 @@ ghost use Rattle.std.specs.Prelude.{◌≡◌, ◌+◌, ◌≤◌, ◌++◌, len
 ghost use Rattle.std.specs.Prelude.{string_bytes, Some, None, codes, IfOk, IfSome, IsOk, OnOk, []};
 ghost use Rattle.std.specs.List.{flat_map, join_by};
 ghost use Rattle.perf_records.specs.Records as values;
-ghost use Rattle.perf_text.specs.Numbers.{hex_byte};
 ghost use Rattle.perf_text.specs.Strips.{strip_text, room_of};
 ghost use Rattle.perf_reports.specs.TaskLines as printed;
 
 use crate::names::push_name;
 use perf_event_data::{Comm, Exit, Mmap, Mmap2, NamespaceEntry, Namespaces, Record};
-use perf_text::strip::{ROOM, Strip};
+use perf_text::hex_bytes::push_hex_bytes;
+use perf_text::strip::Strip;
 use std::alloc::{AllocError, Global};
 
 // `PROT_READ` of mmap(2)
@@ -24,9 +24,6 @@ const EXECUTE: u32 = 4;
 
 // `MAP_SHARED`
 const SHARED: u32 = 1;
-
-// How many bytes fit a strip, each as two digits.
-const BYTES: usize = ROOM / 2;
 
 /// The line of a record about a task, without a line feed. Other records have no line, and need no
 /// memory.
@@ -171,7 +168,7 @@ fn push_file(text: &mut String, strip: &mut Strip, map: &Mmap2) -> Result<(), Al
         put_inode(strip, maj, min, ino, generation);
         return text.push_str(strip.text());
     }
-    push_digits(text, strip, map.build_id().unwrap_or_default())
+    push_hex_bytes(text, map.build_id().unwrap_or_default())
 }
 
 // Writes a file by its device, its inode and its generation.
@@ -188,19 +185,6 @@ fn put_inode(strip: &mut Strip, maj: u32, min: u32, ino: u64, generation: u64)
     strip.put_hex(u64::from(min));
     strip.put(":");
     strip.put_hex(u64::from(maj));
-}
-
-// Appends bytes in hexadecimal, two digits each.
-fn push_digits(text: &mut String, strip: &mut Strip, bytes: &[u8]) -> Result<(), AllocError>
-    ensures { OnOk result (string_bytes text.new
-        ≡ string_bytes text.old ++ flat_map hex_byte bytes.now) }
-{
-    for some in bytes.chunks(BYTES) {
-        strip.clear();
-        strip.put_hex_bytes(some);
-        text.push_str(strip.text())?;
-    }
-    Ok(())
 }
 
 // Appends how mapped memory may be used, with a space on either side.

@@ -17,7 +17,7 @@ use Rattle.perf_records.specs.FrameEnds.{TakesId}
 use Rattle.perf_records.specs.Metadata.{id_length, id_of_type}
 use Rattle.perf_records.specs.Records as records
 use Rattle.perf_records.specs.Records.{RecordValue}
-use Rattle.perf_records.specs.RecordTypes.{type_of}
+use Rattle.perf_records.specs.Records.{type_of}
 use Rattle.perf_records.specs.Sights.{Sight, whole, bad}
 use Rattle.perf_records.specs.declared.frame_end.FrameEnd.{FrameEnd}
 use Rattle.perf_records.specs.declared.record_type.RecordType.{RecordType}

@@ -5,6 +5,7 @@
 
 pub mod args;
 pub mod command;
+pub mod hex_bytes;
 mod hexadecimal;
 pub mod order;
 pub mod strip;

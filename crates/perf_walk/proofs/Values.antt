@@ -14,7 +14,7 @@ use Rattle.perf_records.specs.Answers.{FrameParts, answer_of_frame, answer_after
 use Rattle.perf_records.specs.Bodies.{body, body_of_type}
 use Rattle.perf_records.specs.Records.{RecordValue}
 use Rattle.perf_records.specs.Records as records
-use Rattle.perf_records.specs.RecordTypes.{type_of}
+use Rattle.perf_records.specs.Records.{type_of}
 use Rattle.perf_records.specs.declared.record_type.RecordType.{RecordType}
 use Rattle.perf_records.specs.declared.record_type.RecordType.TheVariants as type
 use Rattle.perf_base.specs.FieldWords.{all_left}

@@ -64,9 +64,9 @@ pub fn push_file_line(
     index: usize,
     found: &FrameLine<'_, '_>,
 ) -> Result<bool, AllocError>
-    ensures read { IfOk result (λ read. read ≡ is_ok (of_frame.words_in found.now)) }
+    ensures read { IfOk result (λ read. read ≡ is_ok (of_frame.frame_words found.now)) }
     ensures text { OnOk result (string_bytes text.new
-        ≡ string_bytes text.old ++ of_frame.line_in index found.now) }
+        ≡ string_bytes text.old ++ of_frame.numbered_line index found.now) }
 {
     push_start(text, index, found.at, found.event, &found.header)?;
     let read = push_words(text, alloc, found)?;
@@ -118,7 +118,7 @@ fn push_words(
     alloc: Global,
     found: &FrameLine<'_, '_>,
 ) -> Result<bool, AllocError>
-    ensures { IfOk result (λ read. files.Prints (of_frame.words_in found.now) read
+    ensures { IfOk result (λ read. files.Prints (of_frame.frame_words found.now) read
         (string_bytes text.old) (string_bytes text.new)) }
 {
     match &found.frame {

@@ -1,7 +1,8 @@
 use Rattle.std.proofs.Common.{◌≡◌, ◌++◌, ◌∙◌, ◌∷◌, [], List, ℕ, codes, string_bytes, refl, ap, append_assoc}
 use Rattle.std.proofs.lemmas.Result.{on_ok_weaker}
 use Rattle.perf_types.specs.MmapDetail.{detail_value}
-use Rattle.perf_lines.specs.Fields.{with_spaces, number, field, hex}
+use Rattle.perf_lines.specs.Fields.{with_spaces, number, field}
+use Rattle.perf_text.specs.Numbers.{hex_bytes}
 use Rattle.perf_lines.specs.Text.{detail_words}
 use Rattle.perf_lines.proofs.Spaced.{words_more, last_word}
 use Rattle.perf_lines.proofs.records.push_mmap2.Goals as goal
@@ -12,7 +13,7 @@ returns c =
     let front : List (List ℕ) = codes "Mmap2" ∷ number (codes "pid") r.pid ∷ number (codes "tid") r.tid ∷ number (codes "addr") r.addr ∷ number (codes "len") r.len ∷ number (codes "pgoff") r.pgoff ∷ [] in
     let detail : List (List ℕ) = detail_words (detail_value r.detail) in
     let back : List (List ℕ) = number (codes "prot") r.prot ∷ number (codes "flags") r.flags ∷ [] in
-    let word : List ℕ = field (codes "filename") (hex c.as_slice.result.now) in
+    let word : List ℕ = field (codes "filename") (hex_bytes c.as_slice.result.now) in
     let first : string_bytes c.push_fields.new.text ≡ string_bytes c.args.text.now ++ with_spaces front =
     c.in_ok-push_fields.ensures ∙ rw (c.from.ensures, c.from-2.ensures) refl in
     let second = words_more front detail _ _ _ first c.in_ok-push_detail.ensures in

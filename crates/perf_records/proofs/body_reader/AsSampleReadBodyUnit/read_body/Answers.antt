@@ -1,6 +1,6 @@
 use Rattle.std.proofs.Common.{ap}
 use Rattle.perf_base.specs.Refusals.{kinds}
-use Rattle.perf_records.specs.RecordTypes.{type_of}
+use Rattle.perf_records.specs.Records.{type_of}
 use Rattle.perf_records.specs.Gives.{IsSampleOf}
 use Rattle.perf_records.proofs.VisitedRecords.{boxed_visit}
 use Rattle.perf_records.proofs.BodyVisits.{visits_type}
