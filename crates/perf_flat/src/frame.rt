@@ -26,7 +26,7 @@ pub const SPANS: usize = 8;
 #[repr(C)]
 #[derive(Copy, Clone, Debug)]
 pub struct Span {
-    /// Its offset in the frame, in bytes: at least the eight of the header.
+    /// Its offset in the frame, in bytes; 0 if the frame does not have it.
     pub at: u32,
     /// Its length in bytes.
     pub len: u32,
