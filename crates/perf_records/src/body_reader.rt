@@ -19,7 +19,7 @@ use perf_buffers::input::Input;
 use perf_buffers::parsebuf::ParseBufChunk;
 use perf_buffers::transient::TransientBytes;
 use perf_reader::reader::Reader;
-use perf_sample_types::sample::{Sample, refill_sample};
+use perf_sample_types::sample::{Sample, fill_over};
 use perf_sample_types::sample_boxed::read_boxed_sample;
 use std::alloc::Global;
 use std::boxed::Box;
@@ -256,7 +256,8 @@ impl<'p, I: Input<'p>> ReadBody<'p, (), I> for AsSample {
     }
 }
 
-/// The sample of a body, read into the place of an existing one.
+/// The sample of a body, read into the place of an existing one. If it is refused, the caller has to
+/// clear the place.
 #[derive(Drop)]
 pub struct IntoSample;
 
@@ -292,6 +293,6 @@ impl<'p, I: Input<'p>> ReadBody<'p, Sample<'p>, I> for IntoSample {
         metadata: RecordMetadata,
         state: &mut Sample<'p>,
     ) -> ReadResult<Self::Output> {
-        refill_sample(state, reader)
+        fill_over(state, reader)
     }
 }

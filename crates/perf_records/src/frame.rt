@@ -82,7 +82,7 @@ impl<'c, 'p> Frame<'c, 'p> {
 
     // Makes an output from the frame's body, under a configuration and the frame's own `misc`, and
     // returns it with the number of elementary reads made after the header.
-    #[inline]
+    #[inline(always)]
     pub(crate) fn read<S, E: Endian, M: BodyReader<'p, S>>(
         self,
         alloc: Global,

@@ -39,7 +39,7 @@ fn refused<T>(refusal: Refusal) -> ParseResult<T>
 
 impl<'c, 'p> Frame<'c, 'p> {
     // Makes an output from the frame's body; a refusal becomes a bad frame.
-    #[inline]
+    #[inline(always)]
     fn read_or_bad<S, E: Endian, M: BodyReader<'p, S>>(
         &self,
         alloc: Global,
@@ -184,7 +184,7 @@ impl<'c, 'p> Frame<'c, 'p> {
     }
 
     /// As [`Frame::sample_into`], but a refusal is a [`BadFrame`], as that of [`Frame::try_visit`].
-    #[inline]
+    #[inline(always)]
     pub fn try_sample_into<E: Endian>(
         &self,
         alloc: Global,

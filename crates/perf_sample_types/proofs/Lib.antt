@@ -6,6 +6,7 @@ pub mod Flags
 pub mod Forms
 pub mod GroupRuns
 mod Origins
+pub mod PresentFields
 pub mod RowFields
 mod Closed
 mod LawFlags

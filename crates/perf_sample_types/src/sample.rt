@@ -1,7 +1,7 @@
 //! The SAMPLE record.
 
 ghost use Rattle.std.specs.Prelude.{◌≡◌, ℕ, ◌*◌, ◌%◌, ◌^◌, ◌<◌, List, length, count_ones, IfOk};
-ghost use Rattle.std.specs.Prelude.{option_map, OnErr, true};
+ghost use Rattle.std.specs.Prelude.{option_map, true};
 ghost use Rattle.perf_base.specs.Configured.{configuration_of};
 ghost use Rattle.perf_base.specs.Layout.{layout};
 ghost use Rattle.perf_base.specs.Order.{Order};
@@ -480,9 +480,12 @@ pub fn fill_sample<'p, I: Input<'p>, E: Endian>(
     fill_fields(sample, reader)
 }
 
-// Reads the fields of a sample over those of another. It is not inlined, as `fill_sample`.
+/// Reads a sample into the place of an existing one, whatever its contents, for callers that read
+/// many samples into one place. Lists of a field that both have keep their memory, by the rule of
+/// [`Reader::list_over`]. After an `Err` the place may contain fields of either sample, until
+/// [`clear_sample`] empties it. It is not inlined, as [`fill_sample`].
 #[inline(never)]
-fn fill_over<'p, I: Input<'p>, E: Endian>(
+pub fn fill_over<'p, I: Input<'p>, E: Endian>(
     sample: &mut Sample<'p>,
     reader: &mut Reader<I, E>,
 ) -> ReadResult<()>
@@ -494,28 +497,4 @@ fn fill_over<'p, I: Input<'p>, E: Endian>(
 {
     sample.moment = Moment::none();
     fill_groups(sample, reader, false)
-}
-
-/// Reads a sample into the place of an existing one, whatever its contents, for callers that read
-/// many samples into one place. Lists of a field that both have keep their memory, by the rule of
-/// [`Reader::list_over`]. After an `Err` the place contains a sample without fields.
-#[inline]
-pub fn refill_sample<'p, I: Input<'p>, E: Endian>(
-    sample: &mut Sample<'p>,
-    reader: &mut Reader<I, E>,
-) -> ReadResult<()>
-    ensures empty { OnErr result (sample.new ≡ no_sample) }
-    ensures memory { Lasts I.source reader.old →
-        HasNoLists (configuration_of (config_of reader.old)) → NeedsNoMemory (kinds result) }
-    ensures call { Call I.source E.order
-        (ReadsBorrowed samples.sample samples.sample_value samples.IsBorrowedSample)
-        reader.old (fill_result (kinds result) sample.new) reader.new }
-{
-    match fill_over(sample, reader) {
-        Ok(()) => Ok(()),
-        Err(refusal) => {
-            clear_sample(sample);
-            Err(refusal)
-        }
-    }
 }

@@ -1,6 +1,6 @@
 //! Fields of a sample, each present or absent.
 
-ghost use Rattle.std.specs.Prelude.{◌≡◌, ◌==◌, ⊤, Bool, IfSome, None, option_map, true, false};
+ghost use Rattle.std.specs.Prelude.{◌≡◌, ◌==◌, ⊤, Bool, IfSome, Some, None, option_map, true, false};
 ghost use Rattle.perf_sample_types.specs.SampleEmpty.{fill_result};
 ghost use Rattle.std.specs.Int.RustNames.{bit_and};
 ghost use Rattle.perf_base.specs.Configuration.{Configuration};
@@ -56,10 +56,34 @@ pub(crate) fn clear_place<T: Drop>(place: &mut Option<T>, is_empty: bool)
     }
 }
 
+// Puts a field into its place. It is apart, since a function clears its locals when it begins: so an
+// absent field clears none.
+#[inline(always)]
+#[tactic(auto, using(crate::proofs::PresentFields::filled_fields))]
+fn fill_field<'p, I: Input<'p>, E: Endian, T: ReadField<'p, I> + Drop>(
+    place: &mut Option<T>,
+    reader: &mut Reader<I, E>,
+) -> ReadResult<()>
+    ensures memory { Lasts I.source reader.old → T.takes_list ≡ false →
+        NeedsNoMemory (kinds result) }
+    ensures call { Call I.source E.order
+        (ReadsField (λ c. Some (T.parts (sample.settings_of c)))
+        (option_map T.value) (λ x. IfSome x T.borrowed))
+        reader.old (fill_result (kinds result) place.new) reader.new }
+{
+    match T::read_field(reader, place) {
+        Ok(field) => {
+            *place = Some(field);
+            Ok(())
+        }
+        Err(refusal) => Err(refusal),
+    }
+}
+
 // Puts a field, if present, into its place, and otherwise empties the place. An absent field costs
 // only the test of its flag, if the place is known to be empty.
 #[inline(always)]
-#[tactic(auto, using(perf_reader::proofs::TableRuns::optional_fields))]
+#[tactic(auto, using(crate::proofs::PresentFields::filled_fields))]
 pub(crate) fn fill_field_if<'p, I: Input<'p>, E: Endian, T: ReadField<'p, I> + Drop>(
     place: &mut Option<T>,
     reader: &mut Reader<I, E>,
@@ -78,13 +102,7 @@ pub(crate) fn fill_field_if<'p, I: Input<'p>, E: Endian, T: ReadField<'p, I> + D
         clear_place(place, is_empty);
         return Ok(());
     }
-    match T::read_field(reader, place) {
-        Ok(field) => {
-            *place = Some(field);
-            Ok(())
-        }
-        Err(refusal) => Err(refusal),
-    }
+    fill_field(place, reader)
 }
 
 // Puts a field into its place if the sample type has its flag. It is inlined, so that it costs no

@@ -1,7 +1,8 @@
 //! The kinds of fields that a sample has, and how each is read.
 #![tactic(auto, using(perf_reader::proofs::Calls::chain))]
 
-ghost use Rattle.std.specs.Prelude.{◌≡◌, ⊤, ℕ, ◌<◌, ◌^◌, IsTrue, true, false};
+ghost use Rattle.std.specs.Prelude.{◌≡◌, ◌≢◌, ⊤, ℕ, ◌*◌, ◌<◌, ◌^◌, IsTrue, Err, length, true, false};
+ghost use Rattle.perf_reader.specs.Prelude.{input_of, refusal_kind, words, OutOfMemory, ReadsOne};
 ghost use Rattle.perf_sample_types.specs.Sample as sample;
 ghost use Rattle.perf_sample_types.specs.SampleParts as parts;
 ghost use Rattle.perf_sample_types.specs.Prelude.{Call, Reads, ReadsBorrowed, is_borrowed, kinds};
@@ -139,6 +140,9 @@ impl<'p, I: Input<'p>> ReadField<'p, I> for Cpu {
     }
 }
 
+// How many bytes an address has.
+const ADDRESS_SIZE: usize = 8;
+
 // Addresses of calls, the innermost first.
 #[derive(Debug, Drop)]
 pub(crate) struct CallChain<'a>(pub(crate) CowSlice<'a, u64>);
@@ -162,15 +166,32 @@ fn spare_addresses(alloc: Global, old: &mut Option<CallChain<'_>>) -> Vec<u64> {
     }
 }
 
+// Passes over the addresses of a call chain that the input does not have in full, and returns the
+// refusal. It is apart, so that the reading of a whole chain stays small.
+#[cold]
+#[inline(never)]
+fn pass_addresses<'p, I: Input<'p>, E: Endian>(reader: &mut Reader<I, E>, count: usize) -> Refusal
+    requires { IsTrue (I.source (input_of reader.old)).told →
+        length (I.source (input_of reader.old)).left < 8 * count }
+    ensures memory { refusal_kind result ≢ OutOfMemory }
+    ensures call { Call I.source E.order (ReadsOne (words count) (λ numbers. numbers))
+        reader.old (Err (refusal_kind result)) reader.new }
+{
+    reader.read_to_the_end(1, count)
+}
+
 impl<'p, I: Input<'p>> ReadField<'p, I> for CallChain<'p> {
     #[inline]
     fn read_field<E: Endian>(
         reader: &mut Reader<I, E>,
         old: &mut Option<Self>,
     ) -> ReadResult<Self> {
-        let count = reader.read_u64()?;
+        let count = reader.read_u64()? as usize;
+        if reader.has_items(count, ADDRESS_SIZE) == Some(false) {
+            return Err(pass_addresses(reader, count));
+        }
         let spare = spare_addresses(reader.alloc(), old);
-        let addresses = reader.read_numbers_over(spare, count as usize)?;
+        let addresses = reader.read_numbers_over(spare, count)?;
         Ok(CallChain(CowSlice::Owned(addresses)))
     }
 }

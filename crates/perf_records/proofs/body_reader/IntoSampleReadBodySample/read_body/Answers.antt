@@ -8,5 +8,5 @@ use Rattle.perf_records.proofs.body_reader.IntoSampleReadBodySample.read_body.Go
 
 pub returns : goal.returns
 returns g c =
-    let now = c.refill_sample.new.sample in
-    record { memory = λ plain whole. c.refill_sample.ensures.memory (c.requires, whole) plain; call = λ ty. visits_type (λ seen (x : Unit {0}). IsSampleIn seen now) c.args.metadata (ap type_of ty) (placed_visit c.args.metadata now (kinds c.refill_sample.result) c.refill_sample.ensures.call) }
+    let now = c.fill_over.new.sample in
+    record { memory = λ plain whole. c.fill_over.ensures.memory (c.requires, whole) plain; call = λ ty. visits_type (λ seen (x : Unit {0}). IsSampleIn seen now) c.args.metadata (ap type_of ty) (placed_visit c.args.metadata now (kinds c.fill_over.result) c.fill_over.ensures.call) }
