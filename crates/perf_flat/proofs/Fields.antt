@@ -9,7 +9,7 @@ use Rattle.perf_base.specs.Layout.{Parts, done, part, optional, padding, byte_st
 use Rattle.perf_base.specs.Order.{Order}
 use Rattle.perf_base.specs.Table.{present_if, slot}
 use Rattle.perf_base.specs.declared.error.ErrorKind.TheVariants.{InvalidRecord}
-use Rattle.perf_sample_types.specs.Sample.{FieldValue, number_is, task_is, numbers_are, bytes_are, plain, task, cpu, call_chain, raw, raw_padding, stack, sized_bytes, has_one}
+use Rattle.perf_sample_types.specs.Sample.{FieldValue, number_is, task_is, numbers_are, bytes_are, plain_field, task, cpu, call_chain, raw, raw_padding, stack, sized_bytes, has_one}
 use Rattle.perf_sample_types.specs.SampleGetters.{numbers_in, bytes_of_field}
 use Rattle.perf_sample_types.proofs.FlaggedFields.{flag_asked}
 use Rattle.perf_flat.specs.Arrays.{low_u32, span}
@@ -45,7 +45,7 @@ none_for has present p is none = record { value = None; reads = slot_none presen
 
 -- ---- numbers
 
-pub plain_read : {o : Order} {a b : BodyCursor} {n : ℕ} → ReadsParts o u64 n a b → ReadsParts o plain (number_is n) a b
+pub plain_read : {o : Order} {a b : BodyCursor} {n : ℕ} → ReadsParts o u64 n a b → ReadsParts o plain_field (number_is n) a b
 plain_read one = then_reads u64 (λ n. done (number_is n)) one all_read
 
 pub task_read : {o : Order} {a b d : BodyCursor} {pid tid : ℕ} → ReadsParts o u32 pid a b → ReadsParts o u32 tid b d → ReadsParts o task (task_is (Some pid) (Some tid)) a d

@@ -4,7 +4,7 @@ use Rattle.std.specs.Int.RustNames.{bit_and}
 use Rattle.perf_base.specs.Layout.{Parts, done, ◌>>=◌}
 use Rattle.perf_base.specs.Order.{Order}
 use Rattle.perf_base.specs.Table.{present_if, slot, table}
-use Rattle.perf_sample_types.specs.Sample.{FieldValue, SampleValue, plain, has_one}
+use Rattle.perf_sample_types.specs.Sample.{FieldValue, SampleValue, plain_field, has_one}
 use Rattle.perf_sample_types.proofs.FlaggedFields.{flag_asked}
 use Rattle.perf_flat.specs.CursorReads.{ReadsParts, ReadsFor}
 use Rattle.perf_flat.specs.SampleReads.{ReadsFields}
@@ -28,8 +28,8 @@ next_field {o} {field} {fields} {v} {vs} {a} {b} {d} first next = record {
 
 -- a field of one flag
 pub flag_field : {o : Order} {v : Option FieldValue} {a b : BodyCursor} (bit : ℕ) {word type : ℕ} → word ≡ type →
-    ReadsParts o (slot (present_if (bit_and word (2 ^ bit) == 2 ^ bit) plain)) v a b → ReadsParts o (slot (present_if (has_one type (bit ∷ [])) plain)) v a b
-flag_field {o} {v} {a} {b} bit asked reads = subst (λ t. ReadsParts o (slot (present_if t plain)) v a b) (sym (flag_asked bit asked)) reads
+    ReadsParts o (slot (present_if (bit_and word (2 ^ bit) == 2 ^ bit) plain_field)) v a b → ReadsParts o (slot (present_if (has_one type (bit ∷ [])) plain_field)) v a b
+flag_field {o} {v} {a} {b} bit asked reads = subst (λ t. ReadsParts o (slot (present_if t plain_field)) v a b) (sym (flag_asked bit asked)) reads
 
 -- a field by its test
 pub tested : {o : Order} {is : Option FieldValue → Type 0} {a b : BodyCursor} {t u : Bool} (p : Parts FieldValue) → t ≡ u → ReadsFor o (slot (present_if t p)) is a b → ReadsFor o (slot (present_if u p)) is a b

@@ -342,7 +342,7 @@ impl BodyCursor<'_> {
     // A number that is a field, if it is present.
     #[inline]
     fn number_if<E: Endian>(&mut self, order: &E, present: bool) -> Option<u64>
-        ensures { ReadsParts (E.order order.now) (slot (present_if present sample.plain))
+        ensures { ReadsParts (E.order order.now) (slot (present_if present sample.plain_field))
             (option_map sample.number_is result) self.old self.new }
     {
         if present {
@@ -362,7 +362,7 @@ impl BodyCursor<'_> {
     ) -> Option<u64>
         ensures { ReadsParts (E.order order.now) (slot (present_if
             (bit_and (sample_flags_bits flags) (sample_flags_bits flag) == sample_flags_bits flag)
-            sample.plain)) (option_map sample.number_is result) self.old self.new }
+            sample.plain_field)) (option_map sample.number_is result) self.old self.new }
     {
         self.number_if(order, flags.contains(flag))
     }

@@ -59,8 +59,8 @@ printed (Ok words) = words
 printed (Err why) = codes "refused" ∷ why ∷ []
 
 -- a text grew by these words, of a frame that was read or not
-abbrev pub Prints : Words → (read : Bool) → (old new : List ℕ) → Type 0
-Prints words read old new = (read ≡ is_ok words) × (new ≡ old ++ with_spaces (printed words))
+abbrev pub PrintsWords : Words → (read : Bool) → (old new : List ℕ) → Type 0
+PrintsWords words read old new = (read ≡ is_ok words) × (new ≡ old ++ with_spaces (printed words))
 
 -- the beginning of a line: its number, the offset of the frame in the file, its event, its header
 abbrev pub line_start : ℕ → ℕ → FrameEvent → perf_event_header → List ℕ

@@ -2,8 +2,8 @@
 
 ghost use Rattle.std.specs.Prelude.{◌≡◌, ◌<◌, ◌++◌, List, ℕ, IsTrue, IfOk, IfSome, is_err};
 ghost use Rattle.std.specs.Prelude.{codes, string_bytes, if◌then◌else◌, true};
-ghost use Rattle.perf_lines.specs.Prelude.{configuration_of, endian_of, buffer_of};
-ghost use Rattle.perf_lines.specs.Prelude.{config_of, of_layout, list_any, IsWritten, Writes};
+ghost use Rattle.perf_lines.specs.Prelude.{configuration_of, endian_of, parser_buffer};
+ghost use Rattle.perf_lines.specs.Prelude.{parser_config, of_layout, list_any, IsWritten, Writes};
 ghost use Rattle.perf_lines.specs.Prelude.{plain, ending_line, ending_outcome};
 ghost use Rattle.perf_lines.specs.Text as lines;
 
@@ -86,12 +86,12 @@ fn push_stream<'p, B: ParseBuf<'p> + Drop, E: Endian>(
     limit: usize,
     with_attr: bool,
 ) -> Result<Outcome, AllocError>
-    requires { configuration_of (config_of parser) ≡ plain }
-    ensures { IsTrue (B.source (buffer_of parser)).told → IfOk result (λ outcome. (written : List ℕ)
+    requires { configuration_of (parser_config parser) ≡ plain }
+    ensures { IsTrue (B.source (parser_buffer parser)).told → IfOk result (λ outcome. (written : List ℕ)
         × (string_bytes text.new ≡ string_bytes text.old ++ written)
-        × IsWritten (B.source (buffer_of parser)).can_fault (E.order (endian_of (config_of parser)))
-        limit (lines.stream_of with_attr (E.order (endian_of (config_of parser)))
-        (B.source (buffer_of parser)).left) outcome written) }
+        × IsWritten (B.source (parser_buffer parser)).can_fault (E.order (endian_of (parser_config parser)))
+        limit (lines.stream_of with_attr (E.order (endian_of (parser_config parser)))
+        (B.source (parser_buffer parser)).left) outcome written) }
 {
     if with_attr {
         push_run_with_attr(text, parser, limit)
@@ -106,11 +106,11 @@ fn push_run_with_attr<'p, B: ParseBuf<'p> + Drop, E: Endian>(
     parser: Parser<B, E>,
     limit: usize,
 ) -> Result<Outcome, AllocError>
-    ensures { IsTrue (B.source (buffer_of parser)).told → IfOk result (λ outcome. (written : List ℕ)
+    ensures { IsTrue (B.source (parser_buffer parser)).told → IfOk result (λ outcome. (written : List ℕ)
         × (string_bytes text.new ≡ string_bytes text.old ++ written)
-        × IsWritten (B.source (buffer_of parser)).can_fault (E.order (endian_of (config_of parser)))
-        limit (lines.stream_after_attribute (E.order (endian_of (config_of parser)))
-        (B.source (buffer_of parser)).left) outcome written) }
+        × IsWritten (B.source (parser_buffer parser)).can_fault (E.order (endian_of (parser_config parser)))
+        limit (lines.stream_after_attribute (E.order (endian_of (parser_config parser)))
+        (B.source (parser_buffer parser)).left) outcome written) }
 {
     match parser.after_attribute() {
         Ok(mut after) => push_run(text, &mut after, limit),
@@ -143,13 +143,13 @@ fn push_run<'p, B: ParseBuf<'p>, E: Endian>(
     parser: &mut Parser<B, E>,
     limit: usize,
 ) -> Result<Outcome, AllocError>
-    ensures { IsTrue (B.source (buffer_of parser.old)).told → IfOk result (λ outcome.
+    ensures { IsTrue (B.source (parser_buffer parser.old)).told → IfOk result (λ outcome.
         (written : List ℕ)
         × (string_bytes text.new ≡ string_bytes text.old ++ written)
-        × IsWritten (B.source (buffer_of parser.old)).can_fault
-        (E.order (endian_of (config_of parser.old))) limit
-        (lines.framed (configuration_of (config_of parser.old))
-        (B.source (buffer_of parser.old)).left)
+        × IsWritten (B.source (parser_buffer parser.old)).can_fault
+        (E.order (endian_of (parser_config parser.old))) limit
+        (lines.framed (configuration_of (parser_config parser.old))
+        (B.source (parser_buffer parser.old)).left)
         outcome written) }
 {
     let mut count = 0;

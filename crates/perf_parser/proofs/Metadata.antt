@@ -9,12 +9,12 @@ use Rattle.perf_reader.specs.Reading.{CallInvariant}
 use Rattle.perf_records.specs.Answers.{SplitsAfter}
 use Rattle.perf_records.specs.Metadata.{MetadataValue}
 use Rattle.perf_parser.specs.Frames.{SplitsParser}
-use Rattle.perf_parser.specs.ReaderState.{buffer_of}
+use Rattle.perf_parser.specs.ReaderState.{parser_buffer}
 use Rattle.perf_parser.specs.declared.parser.Parser.{Parser}
 
 -- with a parser of it
 pub split_parsed : {E : Type 0} (h : perf_event_header) (old new : ReaderState) (body : ParseBufCursor) (metadata : MetadataValue) (parser : Parser ParseBufCursor E) →
-    buffer_of parser ≡ body → SplitsAfter h old (Ok (body, metadata)) new → SplitsParser h old (Ok (parser, metadata)) new
+    parser_buffer parser ≡ body → SplitsAfter h old (Ok (body, metadata)) new → SplitsParser h old (Ok (parser, metadata)) new
 split_parsed h old new body metadata parser same p =
     (p.0 ∙ ap (λ (b : ParseBufCursor). Ok (record { metadata = metadata; body = cursor_left b })) (sym same), p.1, p.2)
 

@@ -12,7 +12,7 @@ use Rattle.perf_reader.specs.Reading.{Transition, CallInvariant}
 use Rattle.perf_reader.specs.Calls as reader_calls
 use Rattle.perf_reader.specs.declared.reader.Reader.{Reader}
 use Rattle.perf_reader.proofs.Calls.{keeps_none}
-use Rattle.perf_parser.specs.ReaderState.{reader_of, buffer_of, config_of, reads_of, state_of}
+use Rattle.perf_parser.specs.ReaderState.{reader_of, parser_buffer, parser_config, parser_reads, parser_state}
 use Rattle.perf_parser.specs.Calls.{BasicInvariant, Call}
 use Rattle.perf_parser.specs.declared.parser.Parser.{Parser}
 use Rattle.perf_parser.proofs.Calls.{follows_more}
@@ -30,8 +30,8 @@ keeps_follows start new e k = record {
 pub lifted : {B E X : Type 0} (source : B → Source) (order : E → Order) (transition : Transition X) (old new : Parser B E) (outcome : Result X ErrorKind) →
     reader_calls.Call (λ (o : Outer B). source o.buf) order transition (reader_of old) outcome (reader_of new) → Call source order transition old outcome new
 lifted source order transition old new outcome c =
-    let a : ReaderState = state_of source order old in
-    let b : ReaderState = state_of source order new in record {
+    let a : ReaderState = parser_state source order old in
+    let b : ReaderState = parser_state source order new in record {
       config = c.config;
       whole = c.whole;
       told = c.told;
@@ -43,10 +43,10 @@ lifted source order transition old new outcome c =
 -- the same of a call whose refusal became an error
 pub answered : {B E X : Type 0} (source : B → Source) (order : E → Order) (transition : Transition X) (old new : Parser B E) (mid : Reader (Outer B) E) (e k : ErrorKind) →
     reader_calls.Call (λ (o : Outer B). source o.buf) order transition (reader_of old) (Err e) mid → k ≡ e →
-    buffer_of new ≡ reader.buffer_of mid → config_of new ≡ reader.config_of mid → reads_of new ≡ reader.reads_of mid → Call source order transition old (Err k) new
+    parser_buffer new ≡ reader.buffer_of mid → parser_config new ≡ reader.config_of mid → parser_reads new ≡ reader.reads_of mid → Call source order transition old (Err k) new
 answered {B = B} source order transition old new mid e k c same buffer config reads =
-    let a : ReaderState = state_of source order old in
-    let b : ReaderState = state_of source order new in
+    let a : ReaderState = parser_state source order old in
+    let b : ReaderState = parser_state source order new in
     let m : ReaderState = reader.state_of (λ (o : Outer B). source o.buf) order mid in
     let is : b ≡ m = rw (buffer, config, reads) refl in
     subst (λ (why : ErrorKind). Call source order transition old (Err why) new) (sym same) (record {

@@ -8,7 +8,7 @@ use Rattle.perf_base.specs.declared.error.ErrorKind.{ErrorKind}
 use Rattle.perf_buffers.specs.Buffer.{Source}
 use Rattle.perf_reader.specs.ReaderState.{ReaderState}
 use Rattle.perf_reader.specs.Reading.{Transition}
-use Rattle.perf_parser.specs.ReaderState.{config_of, state_of}
+use Rattle.perf_parser.specs.ReaderState.{parser_config, parser_state}
 use Rattle.perf_parser.specs.Calls.{BasicInvariant, Counts, CallAs, CallOnly}
 use Rattle.perf_parser.specs.Repeats.{Step, ParsesInTurn, StopsShort}
 use Rattle.perf_parser.specs.declared.parser.Parser.{Parser}
@@ -16,11 +16,11 @@ use Rattle.perf_parser.proofs.Calls.{follows_none, follows_more}
 
 -- a call is a step
 pub step_of : {B E X : Type 0} (source : B → Source) (order : E → Order) (transition : Transition X) (counts : Counts) (old new : Parser B E) (outcome : Result X ErrorKind) →
-    CallAs source order transition counts old outcome new → Step transition counts (state_of source order old) outcome (state_of source order new)
+    CallAs source order transition counts old outcome new → Step transition counts (parser_state source order old) outcome (parser_state source order new)
 step_of {E = E} source order transition counts old new outcome c = record {
   answer = c.answer;
   counted = c.counted;
-  follows = c.follows (state_of source order old) (follows_none (state_of source order old));
+  follows = c.follows (parser_state source order old) (follows_none (parser_state source order old));
   settings = ap (λ (k : ParseConfig E). configuration_of k) c.config;
   order = ap (λ (k : ParseConfig E). order (endian_of k)) c.config;
 }
@@ -43,12 +43,12 @@ module _ {T : Type 0} (parses : Transition T) (counts : Counts) where
 
 -- calls that follow one another are a call of which only this is stated
 pub only : {B E X : Type 0} (source : B → Source) (order : E → Order) (old new : Parser B E) (outcome : Result X ErrorKind) →
-    config_of new ≡ config_of old → BasicInvariant (state_of source order old) (state_of source order new) → CallOnly source order old outcome new
+    parser_config new ≡ parser_config old → BasicInvariant (parser_state source order old) (parser_state source order new) → CallOnly source order old outcome new
 only source order old new outcome config f = record {
   config = config;
   whole = f.whole;
   told = f.told;
   answer = λ t. tt;
   counted = tt;
-  follows = λ start p. follows_more start (state_of source order old) (state_of source order new) p f;
+  follows = λ start p. follows_more start (parser_state source order old) (parser_state source order new) p f;
 }

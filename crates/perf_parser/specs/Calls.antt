@@ -6,7 +6,7 @@ use Rattle.perf_base.specs.declared.error.ErrorKind.{ErrorKind}
 use Rattle.perf_buffers.specs.Buffer.{Source}
 use Rattle.perf_reader.specs.ReaderState.{ReaderState}
 use Rattle.perf_reader.specs.Reading.{Transition, CallInvariant, last_of}
-use Rattle.perf_parser.specs.ReaderState.{buffer_of, config_of, state_of}
+use Rattle.perf_parser.specs.ReaderState.{parser_buffer, parser_config, parser_state}
 use Rattle.perf_parser.specs.declared.parser.Parser.{Parser}
 
 -- What holds between two moments of a parser, whatever was parsed.
@@ -35,18 +35,18 @@ module _ {B E X : Type 0} (source : B → Source) (order : E → Order)
   -- one call: the parser before it, its result, and the parser after it
   pub record CallAs (old : Parser B E) (outcome : Result X ErrorKind) (new : Parser B E) : Type 0 where
     -- the configuration stays
-    pub config : config_of new ≡ config_of old
+    pub config : parser_config new ≡ parser_config old
     -- a buffer stays whole, and its bytes stay known
-    pub whole : (source (buffer_of new)).whole ≡ (source (buffer_of old)).whole
-    pub told : IsTrue (source (buffer_of old)).told → IsTrue (source (buffer_of new)).told
+    pub whole : (source (parser_buffer new)).whole ≡ (source (parser_buffer old)).whole
+    pub told : IsTrue (source (parser_buffer old)).told → IsTrue (source (parser_buffer new)).told
     -- the result, if the bytes of the buffer are known
-    pub answer : IsTrue (source (buffer_of old)).told →
-        transition (state_of source order old) outcome (state_of source order new)
+    pub answer : IsTrue (source (parser_buffer old)).told →
+        transition (parser_state source order old) outcome (parser_state source order new)
     -- faults and reads
-    pub counted : counts (state_of source order old) (kind_if_refused outcome) (state_of source order new)
+    pub counted : counts (parser_state source order old) (kind_if_refused outcome) (parser_state source order new)
     -- whatever moment it followed before the call, it follows after it
-    pub follows : (start : ReaderState) → BasicInvariant start (state_of source order old) →
-        BasicInvariant start (state_of source order new)
+    pub follows : (start : ReaderState) → BasicInvariant start (parser_state source order old) →
+        BasicInvariant start (parser_state source order new)
 
 -- a call of this library
 abbrev pub Call : {B E X : Type 0} → (B → Source) → (E → Order) → Transition X →

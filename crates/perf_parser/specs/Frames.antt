@@ -10,12 +10,12 @@ use Rattle.perf_records.specs.Answers.{FrameParts, AnswersExactly, split_after, 
 use Rattle.perf_records.specs.Answers.{split_reads, frame_reads, length_after}
 use Rattle.perf_records.specs.Frames.{frame_length}
 use Rattle.perf_records.specs.Metadata.{MetadataValue}
-use Rattle.perf_parser.specs.ReaderState.{buffer_of}
+use Rattle.perf_parser.specs.ReaderState.{parser_buffer}
 use Rattle.perf_parser.specs.declared.parser.Parser.{Parser}
 
 -- the parts of a frame that a call returns: a parser of the body, and the metadata
 abbrev pub parsed_parts : {E : Type 0} → Parser ParseBufCursor E × MetadataValue → FrameParts
-parsed_parts pair = record { metadata = pair.1; body = cursor_left (buffer_of pair.0) }
+parsed_parts pair = record { metadata = pair.1; body = cursor_left (parser_buffer pair.0) }
 
 -- how a frame is split after its header; exactly its body and its sample id are taken
 abbrev pub SplitsParser : {E : Type 0} → perf_event_header →

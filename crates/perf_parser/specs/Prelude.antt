@@ -29,4 +29,4 @@ pub use Rattle.perf_records.specs.Gives.{GivesFrameAfter, GivesFrame, BelongsTo}
 pub use Rattle.perf_sample_types.specs.Registers.{RegistersValue, registers_of, registers_value}
 pub use Rattle.perf_parser.specs.Calls.{BasicInvariant, Counts, KeepsInvariant, Call, CallAs, CallOnly}
 pub use Rattle.perf_parser.specs.Frames.{SplitsParser, SplitsFrame}
-pub use Rattle.perf_parser.specs.ReaderState.{reader_of, buffer_of, config_of, reads_of, state_of}
+pub use Rattle.perf_parser.specs.ReaderState.{reader_of, parser_buffer, parser_config, parser_reads, parser_state}

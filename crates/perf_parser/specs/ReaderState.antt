@@ -14,17 +14,17 @@ abbrev pub reader_of : {B E : Type 0} → Parser B E → Reader (Outer B) E
 reader_of p = p.reader
 
 -- the buffer that it parses
-abbrev pub buffer_of : {B E : Type 0} → Parser B E → B
-buffer_of p = reader.buffer_of p.reader
+abbrev pub parser_buffer : {B E : Type 0} → Parser B E → B
+parser_buffer p = reader.buffer_of p.reader
 
 -- its configuration
-abbrev pub config_of : {B E : Type 0} → Parser B E → ParseConfig E
-config_of p = reader.config_of p.reader
+abbrev pub parser_config : {B E : Type 0} → Parser B E → ParseConfig E
+parser_config p = reader.config_of p.reader
 
 -- how many elementary reads it made
-abbrev pub reads_of : {B E : Type 0} → Parser B E → ℕ
-reads_of p = reader.reads_of p.reader
+abbrev pub parser_reads : {B E : Type 0} → Parser B E → ℕ
+parser_reads p = reader.reads_of p.reader
 
 -- the state of a parser, by what its buffer contains and its order
-abbrev pub state_of : {B E : Type 0} → (B → Source) → (E → Order) → Parser B E → ReaderState
-state_of source order p = reader.state_of (λ o. source o.buf) order p.reader
+abbrev pub parser_state : {B E : Type 0} → (B → Source) → (E → Order) → Parser B E → ReaderState
+parser_state source order p = reader.state_of (λ o. source o.buf) order p.reader

@@ -3,7 +3,7 @@
 ghost use Rattle.std.specs.Prelude.{◌≡◌, ◌≢◌, ◌≤◌, Some, IsTrue};
 ghost use Rattle.perf_parser.specs.FrameRuns as hands;
 ghost use Rattle.perf_parser.specs.Runs as runs;
-ghost use Rattle.perf_parser.specs.Prelude.{buffer_of, config_of, reads_of, state_of};
+ghost use Rattle.perf_parser.specs.Prelude.{parser_buffer, parser_config, parser_reads, parser_state};
 ghost use Rattle.perf_reader.specs.Prelude as prelude;
 ghost use Rattle.perf_records.specs.Frames.{first_frames};
 
@@ -66,32 +66,32 @@ pub fn each_frame<'p, B: ParseBuf<'p>, E: Endian, H: FrameHandler<'p, E>>(
     limit: usize,
     handler: &mut H,
 ) -> FrameRun
-    ensures config { config_of parser.new ≡ config_of parser.old }
+    ensures config { parser_config parser.new ≡ parser_config parser.old }
     ensures count { result.count ≤ limit }
 
     // What the handler got: the first frames of the bytes, each once, in order.
-    ensures handed { let start = state_of B.source E.order parser.old in
+    ensures handed { let start = parser_state B.source E.order parser.old in
         IsTrue start.source.told → hands.HandsFirst (λ s x. H.gets s start.settings start.order x)
         start result.count result.end handler.old handler.new }
 
     // How it ends, and what it leaves.
-    ensures end { let start = state_of B.source E.order parser.old in
+    ensures end { let start = parser_state B.source E.order parser.old in
         IsTrue start.source.told → hands.EndsFrames start.order limit start.source.left
-        result.count result.end (B.source (buffer_of parser.new)).left }
+        result.count result.end (B.source (parser_buffer parser.new)).left }
 
     // Over a slice it takes no memory, so no allocation can fail.
-    ensures whole_memory { IsTrue (B.source (buffer_of parser.old)).told →
-        IsTrue (B.source (buffer_of parser.old)).whole →
+    ensures whole_memory { IsTrue (B.source (parser_buffer parser.old)).told →
+        IsTrue (B.source (parser_buffer parser.old)).whole →
         hands.frames_refusal result.end ≢ Some prelude.OutOfMemory }
 
     // The number of elementary reads.
-    ensures reads { IsTrue (B.source (buffer_of parser.old)).told → hands.CountsHeaders
-        result.count result.end (reads_of parser.old) (reads_of parser.new) }
+    ensures reads { IsTrue (B.source (parser_buffer parser.old)).told → hands.CountsHeaders
+        result.count result.end (parser_reads parser.old) (parser_reads parser.new) }
 
     // Whatever the buffer, faults are counted. If its bytes are known, no more is read than is taken.
-    ensures keeps { runs.RunInvariant (state_of B.source E.order parser.old)
+    ensures keeps { runs.RunInvariant (parser_state B.source E.order parser.old)
         (hands.one_if_run_ended result.end) (hands.frames_refusal result.end)
-        (state_of B.source E.order parser.new) }
+        (parser_state B.source E.order parser.new) }
 {
     run_steps(&mut parser.reader, limit, &Handing, handler)
 }

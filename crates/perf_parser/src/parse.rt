@@ -2,7 +2,7 @@
 
 ghost use Rattle.std.specs.Prelude.{IsTrue};
 ghost use Rattle.perf_base.specs.declared.sys.perf_event_header.{perf_event_header};
-ghost use Rattle.perf_parser.specs.Prelude.{Transition, Counts, KeepsInvariant, Call, CallAs, buffer_of};
+ghost use Rattle.perf_parser.specs.Prelude.{Transition, Counts, KeepsInvariant, Call, CallAs, parser_buffer};
 ghost use Rattle.perf_parser.specs.Prelude.{error_kinds, length_after, MovesWithin, Reads};
 ghost use Rattle.perf_parser.specs.Prelude.{RegistersValue, registers_of, registers_value};
 
@@ -101,9 +101,9 @@ pub trait ParseRecord<'p, B: ParseBuf<'p>>: FrameLayout {
         parser: &mut Parser<B, E>,
         header: perf_event_header,
     ) -> ParseResult<Self>
-        ensures within { IsTrue (B.source (buffer_of parser.old)).told →
-            MovesWithin (B.source (buffer_of parser.old)) (length_after header)
-            (B.source (buffer_of parser.new)) }
+        ensures within { IsTrue (B.source (parser_buffer parser.old)).told →
+            MovesWithin (B.source (parser_buffer parser.old)) (length_after header)
+            (B.source (parser_buffer parser.new)) }
         ensures call { Call B.source E.order (Self.transition_after header)
             parser.old (error_kinds result) parser.new };
 }

@@ -5,11 +5,11 @@ ghost use Rattle.std.specs.Prelude.{◌≤◌, false, drop, Err, Ok, None};
 ghost use Rattle.std.specs.Fn.{FnOnceReturnsAtMut};
 ghost use Rattle.perf_parser.specs.Repeats.{ParsesInTurn, StopsShort, AsOption};
 ghost use Rattle.perf_parser.specs.Prelude.{name, one_if_any, falls_short, is_made_beforehand};
-ghost use Rattle.perf_parser.specs.Prelude.{Call, Reads, ReadsOne, NeedsNoMemory, buffer_of};
-ghost use Rattle.perf_parser.specs.Prelude.{reads_of, error_kinds, kind_of, cow_items, is_borrowed};
+ghost use Rattle.perf_parser.specs.Prelude.{Call, Reads, ReadsOne, NeedsNoMemory, parser_buffer};
+ghost use Rattle.perf_parser.specs.Prelude.{parser_reads, error_kinds, kind_of, cow_items, is_borrowed};
 ghost use Rattle.perf_parser.specs.Prelude.{byte_string, rest, SplitsParser, SplitsFrame};
-ghost use Rattle.perf_parser.specs.Prelude.{config_of, configuration_of, endian_of, length_after};
-ghost use Rattle.perf_parser.specs.Prelude.{CallAs, CallOnly, state_of, number, w1, w2, w4, w8};
+ghost use Rattle.perf_parser.specs.Prelude.{parser_config, configuration_of, endian_of, length_after};
+ghost use Rattle.perf_parser.specs.Prelude.{CallAs, CallOnly, parser_state, number, w1, w2, w4, w8};
 ghost use Rattle.perf_parser.specs.Prelude.{GivesFrameAfter, GivesFrame, BelongsTo};
 ghost use Rattle.perf_parser.specs.Prelude as prelude;
 
@@ -42,9 +42,9 @@ impl<'p, B: ParseBuf<'p>, E: Endian> Parser<B, E> {
     /// A parser of the bytes in a buffer. It allocates from `alloc`.
     #[inline]
     pub fn new(alloc: Global, buf: B, config: ParseConfig<E>) -> Parser<B, E>
-        ensures buf { buffer_of result ≡ buf }
-        ensures config { config_of result ≡ config }
-        ensures reads { reads_of result ≡ 0 }
+        ensures buf { parser_buffer result ≡ buf }
+        ensures config { parser_config result ≡ config }
+        ensures reads { parser_reads result ≡ 0 }
     {
         Parser {
             reader: Reader::of_buffer(alloc, buf, config),
@@ -54,7 +54,7 @@ impl<'p, B: ParseBuf<'p>, E: Endian> Parser<B, E> {
     /// The configuration.
     #[inline]
     pub fn config(&self) -> &ParseConfig<E>
-        ensures { result.now ≡ config_of self.now }
+        ensures { result.now ≡ parser_config self.now }
     {
         self.reader.config()
     }
@@ -62,7 +62,7 @@ impl<'p, B: ParseBuf<'p>, E: Endian> Parser<B, E> {
     /// The byte order.
     #[inline]
     pub fn endian(&self) -> &E
-        ensures { result.now ≡ endian_of (config_of self.now) }
+        ensures { result.now ≡ endian_of (parser_config self.now) }
     {
         self.reader.endian()
     }
@@ -70,9 +70,9 @@ impl<'p, B: ParseBuf<'p>, E: Endian> Parser<B, E> {
     /// A parser of the rest of the same buffer under another configuration.
     #[inline]
     pub fn reconfigure<E2: Endian>(self, config: ParseConfig<E2>) -> Parser<B, E2>
-        ensures buf { buffer_of result ≡ buffer_of self }
-        ensures config { config_of result ≡ config }
-        ensures reads { reads_of result ≡ reads_of self }
+        ensures buf { parser_buffer result ≡ parser_buffer self }
+        ensures config { parser_config result ≡ config }
+        ensures reads { parser_reads result ≡ parser_reads self }
     {
         Parser {
             reader: self.reader.reconfigure(config),
@@ -84,14 +84,14 @@ impl<'p, E: Endian> Parser<&'p [u8], E> {
     /// A second parser of the same bytes, under the same configuration. It has made no reads yet.
     /// It fails if the order's `duplicate` does.
     pub fn clone(&self) -> ParseResult<Parser<&'p [u8], E>>
-        ensures buf { IfOk result (λ p. buffer_of p ≡ buffer_of self.now) }
+        ensures buf { IfOk result (λ p. parser_buffer p ≡ parser_buffer self.now) }
         ensures same { IfOk result (λ p.
-            configuration_of (config_of p) ≡ configuration_of (config_of self.now)) }
+            configuration_of (parser_config p) ≡ configuration_of (parser_config self.now)) }
         ensures order { IfOk result (λ p.
-            E.order (endian_of (config_of p)) ≡ E.order (endian_of (config_of self.now))) }
-        ensures reads { IfOk result (λ p. reads_of p ≡ 0) }
+            E.order (endian_of (parser_config p)) ≡ E.order (endian_of (parser_config self.now))) }
+        ensures reads { IfOk result (λ p. parser_reads p ≡ 0) }
         ensures refused { IfErr result (λ e. (kind_of e ≡ ErrorKind.OutOfMemory)
-            × IsTrue (E.may_refuse (endian_of (config_of self.now)))) }
+            × IsTrue (E.may_refuse (endian_of (parser_config self.now)))) }
     {
         match self.config().duplicate() {
             Ok(config) => {
@@ -120,7 +120,7 @@ impl<'p, B: ParseBuf<'p>, E: Endian> Parser<B, E> {
     /// Parses a `u8`.
     #[inline]
     pub fn parse_u8(&mut self) -> ParseResult<u8>
-        ensures counted { reads_of self.new ≡ reads_of self.old + 1 }
+        ensures counted { parser_reads self.new ≡ parser_reads self.old + 1 }
         ensures memory { NeedsNoMemory (error_kinds result) }
         ensures call { Call B.source E.order (ReadsOne (number w1) (λ n. n))
             self.old (error_kinds result) self.new }
@@ -134,7 +134,7 @@ impl<'p, B: ParseBuf<'p>, E: Endian> Parser<B, E> {
     /// Parses a `u16`.
     #[inline]
     pub fn parse_u16(&mut self) -> ParseResult<u16>
-        ensures counted { reads_of self.new ≡ reads_of self.old + 1 }
+        ensures counted { parser_reads self.new ≡ parser_reads self.old + 1 }
         ensures memory { NeedsNoMemory (error_kinds result) }
         ensures call { Call B.source E.order (ReadsOne (number w2) (λ n. n))
             self.old (error_kinds result) self.new }
@@ -148,7 +148,7 @@ impl<'p, B: ParseBuf<'p>, E: Endian> Parser<B, E> {
     /// Parses a `u32`.
     #[inline]
     pub fn parse_u32(&mut self) -> ParseResult<u32>
-        ensures counted { reads_of self.new ≡ reads_of self.old + 1 }
+        ensures counted { parser_reads self.new ≡ parser_reads self.old + 1 }
         ensures memory { NeedsNoMemory (error_kinds result) }
         ensures call { Call B.source E.order (ReadsOne (number w4) (λ n. n))
             self.old (error_kinds result) self.new }
@@ -162,7 +162,7 @@ impl<'p, B: ParseBuf<'p>, E: Endian> Parser<B, E> {
     /// Parses a `u64`.
     #[inline]
     pub fn parse_u64(&mut self) -> ParseResult<u64>
-        ensures counted { reads_of self.new ≡ reads_of self.old + 1 }
+        ensures counted { parser_reads self.new ≡ parser_reads self.old + 1 }
         ensures memory { NeedsNoMemory (error_kinds result) }
         ensures call { Call B.source E.order (ReadsOne (number w8) (λ n. n))
             self.old (error_kinds result) self.new }
@@ -184,19 +184,19 @@ impl<'p, B: ParseBuf<'p>, E: Endian> Parser<B, E> {
     /// and all of them are taken.
     #[inline]
     pub fn parse_bytes(&mut self, len: usize) -> ParseResult<CowSlice<'p, u8>>
-        ensures whole { IsTrue (B.source (buffer_of self.old)).whole →
+        ensures whole { IsTrue (B.source (parser_buffer self.old)).whole →
             IfOk result (λ c. IsTrue (is_borrowed c)) }
-        ensures whole_memory { IsTrue (B.source (buffer_of self.old)).whole →
+        ensures whole_memory { IsTrue (B.source (parser_buffer self.old)).whole →
             NeedsNoMemory (error_kinds result) }
-        ensures nothing { len ≡ 0 → IsOk result × (buffer_of self.new ≡ buffer_of self.old)
+        ensures nothing { len ≡ 0 → IsOk result × (parser_buffer self.new ≡ parser_buffer self.old)
             × IfOk result (λ c. IsTrue (is_borrowed c)) }
-        ensures short { falls_short (B.hint (buffer_of self.old)) len ≡ true →
+        ensures short { falls_short (B.hint (parser_buffer self.old)) len ≡ true →
             NeedsNoMemory (error_kinds result) }
-        ensures beforehand { IsTrue (B.source (buffer_of self.old)).told →
-            is_made_beforehand (B.hint (buffer_of self.old)) len ≡ true → IfErr result (λ e.
+        ensures beforehand { IsTrue (B.source (parser_buffer self.old)).told →
+            is_made_beforehand (B.hint (parser_buffer self.old)) len ≡ true → IfErr result (λ e.
             kind_of e ≡ ErrorKind.OutOfMemory →
-            (B.source (buffer_of self.new)).left ≡ (B.source (buffer_of self.old)).left) }
-        ensures counted { reads_of self.new ≡ reads_of self.old + one_if_any len }
+            (B.source (parser_buffer self.new)).left ≡ (B.source (parser_buffer self.old)).left) }
+        ensures counted { parser_reads self.new ≡ parser_reads self.old + one_if_any len }
         ensures length { IfOk result (λ c. length (cow_items c) ≡ len) }
         ensures call { Call B.source E.order (ReadsOne (byte_string len) cow_items)
             self.old (error_kinds result) self.new }
@@ -210,15 +210,15 @@ impl<'p, B: ParseBuf<'p>, E: Endian> Parser<B, E> {
     /// All bytes that are left, borrowed if the buffer is a slice, or if there are none.
     #[inline]
     pub fn parse_rest(&mut self) -> ParseResult<CowSlice<'p, u8>>
-        ensures whole { IsTrue (B.source (buffer_of self.old)).whole →
+        ensures whole { IsTrue (B.source (parser_buffer self.old)).whole →
             IfOk result (λ c. IsTrue (is_borrowed c)) }
-        ensures whole_memory { IsTrue (B.source (buffer_of self.old)).whole →
+        ensures whole_memory { IsTrue (B.source (parser_buffer self.old)).whole →
             NeedsNoMemory (error_kinds result) }
-        ensures nothing { IsTrue (B.source (buffer_of self.old)).told →
-            (B.source (buffer_of self.old)).left ≡ [] →
+        ensures nothing { IsTrue (B.source (parser_buffer self.old)).told →
+            (B.source (parser_buffer self.old)).left ≡ [] →
             NeedsNoMemory (error_kinds result) × IfOk result (λ c. IsTrue (is_borrowed c)) }
         ensures counted { IfOk result (λ c.
-            reads_of self.new ≡ reads_of self.old + one_if_any (length (cow_items c))) }
+            parser_reads self.new ≡ parser_reads self.old + one_if_any (length (cow_items c))) }
         ensures call { Call B.source E.order (ReadsOne rest cow_items)
             self.old (error_kinds result) self.new }
     {
@@ -232,12 +232,12 @@ impl<'p, B: ParseBuf<'p>, E: Endian> Parser<B, E> {
     /// slice, or if none are left.
     #[inline]
     pub fn parse_rest_trim_nul(&mut self) -> ParseResult<CowSlice<'p, u8>>
-        ensures whole { IsTrue (B.source (buffer_of self.old)).whole →
+        ensures whole { IsTrue (B.source (parser_buffer self.old)).whole →
             IfOk result (λ c. IsTrue (is_borrowed c)) }
-        ensures whole_memory { IsTrue (B.source (buffer_of self.old)).whole →
+        ensures whole_memory { IsTrue (B.source (parser_buffer self.old)).whole →
             NeedsNoMemory (error_kinds result) }
-        ensures nothing { IsTrue (B.source (buffer_of self.old)).told →
-            (B.source (buffer_of self.old)).left ≡ [] →
+        ensures nothing { IsTrue (B.source (parser_buffer self.old)).told →
+            (B.source (parser_buffer self.old)).left ≡ [] →
             NeedsNoMemory (error_kinds result) × IfOk result (λ c. IsTrue (is_borrowed c)) }
         ensures call { Call B.source E.order (Reads (λ _. name) cow_items)
             self.old (error_kinds result) self.new }
@@ -311,10 +311,10 @@ impl<'p, B: ParseBuf<'p>, E: Endian> Parser<B, E> {
         ensures nothing { len ≡ 0 → IsOk result }
         ensures call { CallOnly B.source E.order self.old (error_kinds result) self.new }
         ensures ok { IfOk result (λ v. (length v.items ≡ len) × ParsesInTurn P.parses P.counts
-            (state_of B.source E.order self.old) v.items (state_of B.source E.order self.new)) }
+            (parser_state B.source E.order self.old) v.items (parser_state B.source E.order self.new)) }
         ensures err { IfErr result (λ e. StopsShort P.parses P.counts
-            (state_of B.source E.order self.old) len (kind_of e)
-            (state_of B.source E.order self.new)) }
+            (parser_state B.source E.order self.old) len (kind_of e)
+            (parser_state B.source E.order self.new)) }
     {
         let mut items = match self.reader.list_for(len) {
             Ok(items) => items,
@@ -341,11 +341,11 @@ impl<'p, B: ParseBuf<'p>, E: Endian> Parser<B, E> {
         ensures call { CallOnly B.source E.order self.old (error_kinds result) self.new }
         ensures owned { IfOk result (λ c. is_borrowed c ≡ false) }
         ensures ok { IfOk result (λ c. (length (cow_items c) ≡ len) × ParsesInTurn P.parses P.counts
-            (state_of B.source E.order self.old) (cow_items c)
-            (state_of B.source E.order self.new)) }
+            (parser_state B.source E.order self.old) (cow_items c)
+            (parser_state B.source E.order self.new)) }
         ensures err { IfErr result (λ e. StopsShort P.parses P.counts
-            (state_of B.source E.order self.old) len (kind_of e)
-            (state_of B.source E.order self.new)) }
+            (parser_state B.source E.order self.old) len (kind_of e)
+            (parser_state B.source E.order self.new)) }
     {
         match self.parse_repeated::<P>(len) {
             Ok(items) => Ok(CowSlice::Owned(items)),
@@ -369,17 +369,17 @@ impl<'p, B: ParseBuf<'p>, E: Endian> Parser<B, E> {
         visitor: V,
         header: perf_event_header,
     ) -> ParseResult<V::Output>
-        ensures within { IsTrue (B.source (buffer_of self.old)).told →
-            prelude.MovesWithin (B.source (buffer_of self.old)) (length_after header)
-            (B.source (buffer_of self.new)) }
+        ensures within { IsTrue (B.source (parser_buffer self.old)).told →
+            prelude.MovesWithin (B.source (parser_buffer self.old)) (length_after header)
+            (B.source (parser_buffer self.new)) }
         ensures event { IfOk result (λ output. BelongsTo V.gives header
-            (B.source (buffer_of self.old)).whole output) }
-        ensures whole_memory { IsTrue (B.source (buffer_of self.old)).whole →
+            (B.source (parser_buffer self.old)).whole output) }
+        ensures whole_memory { IsTrue (B.source (parser_buffer self.old)).whole →
             prelude.needs_memory header.type_ ≡ false → NeedsNoMemory (error_kinds result) }
 
         // A size that does not include the header is refused before anything else.
         ensures small { header.size < 8 → (error_kinds result ≡ Err ErrorKind.InvalidRecord)
-            × (B.source (buffer_of self.new) ≡ B.source (buffer_of self.old)) }
+            × (B.source (parser_buffer self.new) ≡ B.source (parser_buffer self.old)) }
         ensures small_why { header.size < 8 →
             IfErr result (λ e. prelude.IsErrorOf e prelude.SmallHeader) }
 
@@ -388,19 +388,19 @@ impl<'p, B: ParseBuf<'p>, E: Endian> Parser<B, E> {
         // for the body, exactly the frame is taken.
         ensures nothing { length_after header ≡ 0 → prelude.needs_memory header.type_ ≡ false →
             NeedsNoMemory (error_kinds result) }
-        ensures short { prelude.falls_short (B.hint (buffer_of self.old))
+        ensures short { prelude.falls_short (B.hint (parser_buffer self.old))
             (length_after header) ≡ true →
             NeedsNoMemory (error_kinds result) × IfOk result (λ output. ⊥) }
-        ensures beforehand { IsTrue (B.source (buffer_of self.old)).told →
-            prelude.is_made_beforehand (B.hint (buffer_of self.old)) (length_after header) ≡ true →
+        ensures beforehand { IsTrue (B.source (parser_buffer self.old)).told →
+            prelude.is_made_beforehand (B.hint (parser_buffer self.old)) (length_after header) ≡ true →
             IfErr result (λ e. kind_of e ≡ ErrorKind.OutOfMemory →
-            prelude.LeavesAllOrRest (B.source (buffer_of self.old)) (length_after header)
-            (B.source (buffer_of self.new))) }
-        ensures spent { IsTrue (B.source (buffer_of self.old)).told →
-            IsTrue (B.source (buffer_of self.old)).whole →
+            prelude.LeavesAllOrRest (B.source (parser_buffer self.old)) (length_after header)
+            (B.source (parser_buffer self.new))) }
+        ensures spent { IsTrue (B.source (parser_buffer self.old)).told →
+            IsTrue (B.source (parser_buffer self.old)).whole →
             IfErr result (λ e. kind_of e ≡ ErrorKind.OutOfMemory →
-            (B.source (buffer_of self.new)).left
-            ≡ drop (length_after header) (B.source (buffer_of self.old)).left) }
+            (B.source (parser_buffer self.new)).left
+            ≡ drop (length_after header) (B.source (parser_buffer self.old)).left) }
         ensures call { Call B.source E.order (GivesFrameAfter V.gives header)
             self.old (error_kinds result) self.new }
     {
@@ -419,9 +419,9 @@ impl<'p, B: ParseBuf<'p>, E: Endian> Parser<B, E> {
     pub fn parse_record<V: Visitor<'p>>(&mut self, visitor: V) -> ParseResult<V::Output>
         // A header that is missing, or whose size does not include it, is refused before any memory
         // is needed.
-        ensures small { IsTrue (B.source (buffer_of self.old)).told →
-            prelude.RefusesHeader (E.order (prelude.endian_of (prelude.config_of self.old)))
-            (B.source (buffer_of self.old)).left (error_kinds result) }
+        ensures small { IsTrue (B.source (parser_buffer self.old)).told →
+            prelude.RefusesHeader (E.order (prelude.endian_of (prelude.parser_config self.old)))
+            (B.source (parser_buffer self.old)).left (error_kinds result) }
         ensures call { Call B.source E.order (GivesFrame V.gives)
             self.old (error_kinds result) self.new }
     {
@@ -450,42 +450,42 @@ impl<'p, B: ParseBuf<'p>, E: Endian> Parser<B, E> {
         &mut self,
         header: perf_event_header,
     ) -> ParseResult<(Parser<ParseBufCursor<'p>, E>, RecordMetadata)>
-        ensures within { IsTrue (B.source (buffer_of self.old)).told →
-            prelude.MovesWithin (B.source (buffer_of self.old)) (length_after header)
-            (B.source (buffer_of self.new)) }
+        ensures within { IsTrue (B.source (parser_buffer self.old)).told →
+            prelude.MovesWithin (B.source (parser_buffer self.old)) (length_after header)
+            (B.source (parser_buffer self.new)) }
         ensures inner { IfOk result (λ r.
-            (configuration_of (config_of r.0) ≡ configuration_of (config_of self.old))
-            × (E.order (endian_of (config_of r.0)) ≡ E.order (endian_of (config_of self.old)))
-            × (reads_of r.0 ≡ 0)) }
-        ensures whole { IsTrue (B.source (buffer_of self.old)).whole →
-            IfOk result (λ r. IsTrue (prelude.cursor_is_borrowed (buffer_of r.0))) }
-        ensures whole_memory { IsTrue (B.source (buffer_of self.old)).whole →
-            E.may_refuse (endian_of (config_of self.old)) ≡ false →
+            (configuration_of (parser_config r.0) ≡ configuration_of (parser_config self.old))
+            × (E.order (endian_of (parser_config r.0)) ≡ E.order (endian_of (parser_config self.old)))
+            × (parser_reads r.0 ≡ 0)) }
+        ensures whole { IsTrue (B.source (parser_buffer self.old)).whole →
+            IfOk result (λ r. IsTrue (prelude.cursor_is_borrowed (parser_buffer r.0))) }
+        ensures whole_memory { IsTrue (B.source (parser_buffer self.old)).whole →
+            E.may_refuse (endian_of (parser_config self.old)) ≡ false →
             NeedsNoMemory (error_kinds result) }
 
         // A size that does not include the header is refused before anything else.
         ensures small { header.size < 8 → (error_kinds result ≡ Err ErrorKind.InvalidRecord)
-            × (B.source (buffer_of self.new) ≡ B.source (buffer_of self.old)) }
+            × (B.source (parser_buffer self.new) ≡ B.source (parser_buffer self.old)) }
         ensures small_why { header.size < 8 →
             IfErr result (λ e. prelude.IsErrorOf e prelude.SmallHeader) }
 
         // With any other size it is an invalid record only if it is too short for its sample id.
-        ensures id_why { IsTrue (B.source (buffer_of self.old)).told → 8 ≤ header.size →
+        ensures id_why { IsTrue (B.source (parser_buffer self.old)).told → 8 ≤ header.size →
             IfErr result (λ e. kind_of e ≡ ErrorKind.InvalidRecord →
             prelude.IsErrorOf e prelude.NoRoomForId) }
 
         // Memory is taken by the rules of a cut, and for the duplicate of the order.
         ensures nothing { length_after header ≡ 0 →
-            E.may_refuse (endian_of (config_of self.old)) ≡ false →
+            E.may_refuse (endian_of (parser_config self.old)) ≡ false →
             NeedsNoMemory (error_kinds result) }
-        ensures short { prelude.falls_short (B.hint (buffer_of self.old))
+        ensures short { prelude.falls_short (B.hint (parser_buffer self.old))
             (length_after header) ≡ true →
             NeedsNoMemory (error_kinds result) × IfOk result (λ parts. ⊥) }
-        ensures beforehand { IsTrue (B.source (buffer_of self.old)).told →
-            prelude.is_made_beforehand (B.hint (buffer_of self.old)) (length_after header) ≡ true →
+        ensures beforehand { IsTrue (B.source (parser_buffer self.old)).told →
+            prelude.is_made_beforehand (B.hint (parser_buffer self.old)) (length_after header) ≡ true →
             IfErr result (λ e. kind_of e ≡ ErrorKind.OutOfMemory →
-            prelude.LeavesAllOrRest (B.source (buffer_of self.old)) (length_after header)
-            (B.source (buffer_of self.new))) }
+            prelude.LeavesAllOrRest (B.source (parser_buffer self.old)) (length_after header)
+            (B.source (parser_buffer self.new))) }
         ensures call { Call B.source E.order (SplitsParser header)
             self.old (error_kinds result) self.new }
     {
@@ -503,21 +503,21 @@ impl<'p, B: ParseBuf<'p>, E: Endian> Parser<B, E> {
     #[inline]
     pub fn parse_metadata(&mut self) -> ParseResult<(Parser<ParseBufCursor<'p>, E>, RecordMetadata)>
         ensures inner { IfOk result (λ r.
-            (configuration_of (config_of r.0) ≡ configuration_of (config_of self.old))
-            × (E.order (endian_of (config_of r.0)) ≡ E.order (endian_of (config_of self.old)))
-            × (reads_of r.0 ≡ 0)) }
-        ensures whole { IsTrue (B.source (buffer_of self.old)).whole →
-            IfOk result (λ r. IsTrue (prelude.cursor_is_borrowed (buffer_of r.0))) }
-        ensures whole_memory { IsTrue (B.source (buffer_of self.old)).told →
-            IsTrue (B.source (buffer_of self.old)).whole →
-            E.may_refuse (endian_of (config_of self.old)) ≡ false →
+            (configuration_of (parser_config r.0) ≡ configuration_of (parser_config self.old))
+            × (E.order (endian_of (parser_config r.0)) ≡ E.order (endian_of (parser_config self.old)))
+            × (parser_reads r.0 ≡ 0)) }
+        ensures whole { IsTrue (B.source (parser_buffer self.old)).whole →
+            IfOk result (λ r. IsTrue (prelude.cursor_is_borrowed (parser_buffer r.0))) }
+        ensures whole_memory { IsTrue (B.source (parser_buffer self.old)).told →
+            IsTrue (B.source (parser_buffer self.old)).whole →
+            E.may_refuse (endian_of (parser_config self.old)) ≡ false →
             NeedsNoMemory (error_kinds result) }
 
         // A header that is missing, or whose size does not include it, is refused before any memory
         // is needed.
-        ensures small { IsTrue (B.source (buffer_of self.old)).told →
-            prelude.RefusesHeader (E.order (endian_of (config_of self.old)))
-            (B.source (buffer_of self.old)).left (error_kinds result) }
+        ensures small { IsTrue (B.source (parser_buffer self.old)).told →
+            prelude.RefusesHeader (E.order (endian_of (parser_config self.old)))
+            (B.source (parser_buffer self.old)).left (error_kinds result) }
         ensures call { Call B.source E.order SplitsFrame self.old (error_kinds result) self.new }
     {
         let header = match self.parse::<perf_event_header>() {
@@ -539,30 +539,30 @@ impl<'p, B: ParseBuf<'p> + Drop, E: Endian> Parser<B, E> {
     /// It fails as the parse of a `perf_event_attr` does, and if the order's `duplicate` does.
     pub fn after_attribute(mut self) -> ParseResult<Parser<B, E>>
         ensures order { IfOk result (λ after.
-            E.order (endian_of (config_of after)) ≡ E.order (endian_of (config_of self))) }
+            E.order (endian_of (parser_config after)) ≡ E.order (endian_of (parser_config self))) }
 
         // The attribute is the layout of the first bytes, and takes as many as its size specifies.
-        ensures read { let start = state_of B.source E.order self in
+        ensures read { let start = parser_state B.source E.order self in
             IsTrue start.source.told → IfOk result (λ after. (attr : prelude.perf_event_attr)
             × (prelude.took_by_places start.order prelude.attribute start.source.left start.reads
-            ≡ prelude.took attr (B.source (buffer_of after)).left (reads_of after))
-            × ((B.source (buffer_of after)).left ≡ drop attr.size start.source.left)
-            × (configuration_of (config_of after) ≡ prelude.configured_by attr)) }
+            ≡ prelude.took attr (B.source (parser_buffer after)).left (parser_reads after))
+            × ((B.source (parser_buffer after)).left ≡ drop attr.size start.source.left)
+            × (configuration_of (parser_config after) ≡ prelude.configured_by attr)) }
 
         // It fails as that layout does, or by a fault of the buffer, or out of memory for the order.
-        ensures refused { let start = state_of B.source E.order self in
+        ensures refused { let start = parser_state B.source E.order self in
             IsTrue start.source.told → IfErr result (λ e. IsTrue (prelude.of_layout (kind_of e)) →
             prelude.layout start.order prelude.attribute start.source.left ≡ Err (kind_of e)) }
         ensures fault { IfErr result (λ e. kind_of e ≡ ErrorKind.External →
-            IsTrue (B.source (buffer_of self)).can_fault) }
-        ensures memory { IsTrue (B.source (buffer_of self)).told → IfErr result (λ e.
+            IsTrue (B.source (parser_buffer self)).can_fault) }
+        ensures memory { IsTrue (B.source (parser_buffer self)).told → IfErr result (λ e.
             kind_of e ≡ ErrorKind.OutOfMemory →
-            IsTrue (E.may_refuse (endian_of (config_of self)))) }
+            IsTrue (E.may_refuse (endian_of (parser_config self)))) }
 
         // What was kept since any earlier state is kept.
         ensures keeps { (start : prelude.ReaderState) →
-            prelude.CallInvariant start None (state_of B.source E.order self) →
-            IfOk result (λ after. prelude.CallInvariant start None (state_of B.source E.order after)) }
+            prelude.CallInvariant start None (parser_state B.source E.order self) →
+            IfOk result (λ after. prelude.CallInvariant start None (parser_state B.source E.order after)) }
     {
         let attr = match self.parse::<perf_event_attr>() {
             Ok(attr) => attr,

@@ -4,7 +4,7 @@ ghost use Rattle.std.specs.Prelude.{◌≡◌, ◌+◌, ◌≤◌, ◌<◌, ◌+
 ghost use Rattle.std.specs.Prelude.{max, min, length};
 ghost use Rattle.std.specs.Prelude.{vec_len, vec_capacity};
 ghost use Rattle.std.specs.Prelude.{IsTrue, IfErr, OnOk, OnErr};
-ghost use Rattle.perf_parser.specs.Prelude.{buffer_of, config_of, reads_of, state_of};
+ghost use Rattle.perf_parser.specs.Prelude.{parser_buffer, parser_config, parser_reads, parser_state};
 ghost use Rattle.perf_parser.specs.Runs as runs;
 ghost use Rattle.perf_parser.specs.Steps as steps;
 ghost use Rattle.perf_reader.specs.Prelude as prelude;
@@ -284,41 +284,41 @@ pub fn read_records<'p, B: ParseBuf<'p>, E: Endian>(
     parser: &mut Parser<B, E>,
     limit: usize,
 ) -> Run<'p>
-    ensures config { config_of parser.new ≡ config_of parser.old }
+    ensures config { parser_config parser.new ≡ parser_config parser.old }
 
     // The list is the first answers of the bytes.
-    ensures answers { let start = state_of B.source E.order parser.old in
+    ensures answers { let start = parser_state B.source E.order parser.old in
         IsTrue start.source.told → runs.answers_in result ≡ take (runs.answer_count result)
         (runs.answers start.settings start.order start.source.left) }
 
     ensures count { runs.answer_count result ≤ limit }
 
     // How it ends, and what it leaves.
-    ensures end { let start = state_of B.source E.order parser.old in
+    ensures end { let start = parser_state B.source E.order parser.old in
         IsTrue start.source.told → runs.EndsWith start.order limit start.source.left
-        (runs.answer_count result) result.end (B.source (buffer_of parser.new)).left }
+        (runs.answer_count result) result.end (B.source (parser_buffer parser.new)).left }
 
     // Over a slice, a run that a failed allocation ended is between two frames: the failure costs
     // at most the answer of the next one, and the run after it begins at a frame.
-    ensures between { let start = state_of B.source E.order parser.old in
+    ensures between { let start = parser_state B.source E.order parser.old in
         IsTrue start.source.told → IsTrue start.source.whole →
         runs.EndsBetween start.order start.source.left (runs.answer_count result) result.end
-        (B.source (buffer_of parser.new)).left }
+        (B.source (parser_buffer parser.new)).left }
 
     // The number of elementary reads: those of the frames that it lists, and those of its end.
-    ensures reads { let start = state_of B.source E.order parser.old in
+    ensures reads { let start = parser_state B.source E.order parser.old in
         IsTrue start.source.told → runs.CountsReads start.settings start.order start.source.left
-        (runs.answer_count result) result.end start.reads (reads_of parser.new) }
+        (runs.answer_count result) result.end start.reads (parser_reads parser.new) }
 
     // There are at most as many of them as bytes taken, and one more for each refused answer and
     // for an end before the limit.
-    ensures keeps { runs.RunInvariant (state_of B.source E.order parser.old)
+    ensures keeps { runs.RunInvariant (parser_state B.source E.order parser.old)
         (runs.refused_count result.frames.items + runs.one_if_ended result.end)
         (runs.end_refusal result.end)
-        (state_of B.source E.order parser.new) }
+        (parser_state B.source E.order parser.new) }
 
     // Over a slice no byte string is copied.
-    ensures borrowed { IsTrue (B.source (buffer_of parser.old)).whole →
+    ensures borrowed { IsTrue (B.source (parser_buffer parser.old)).whole →
         runs.AllBorrowed result.frames.items }
 {
     let mut frames: Frames<'p> = Vec::new(parser.reader.alloc());

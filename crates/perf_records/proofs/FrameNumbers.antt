@@ -19,7 +19,7 @@ use Rattle.perf_sample_types.specs.SampleId.{SampleIdValue, one_if, sample_id_fl
 use Rattle.perf_words.specs.Bits.{has_bit}
 use Rattle.perf_records.specs.Answers.{FrameParts, length_after, parts_of, split_after, record_in, answer_after, id_bytes}
 use Rattle.perf_records.specs.Bodies.{body}
-use Rattle.perf_records.specs.FrameNumbers.{eight_at, bytes_of, time_field, task_field, id_field, cpu_field, identifier_field, event_field, field_place, bytes_at, field_bytes, first_half, second_half, time_in, pid_in, tid_in, cpu_in, id_in, identifier_bytes, identifier_in, IsRead, IsIdentifierRead}
+use Rattle.perf_records.specs.FrameNumbers.{eight_at, bytes_of, time_field, task_field, id_field, cpu_field, identifier_field, event_field, number_place, place_bytes, field_bytes, first_half, second_half, time_in, pid_in, tid_in, cpu_in, id_in, identifier_bytes, identifier_in, IsRead, IsIdentifierRead}
 use Rattle.perf_records.specs.Metadata.{carries_sample_id, id_of_type, id_length}
 use Rattle.perf_records.specs.Records.{sample_is}
 use Rattle.perf_records.specs.declared.frame_numbers.Place.{Place}
@@ -56,7 +56,7 @@ split_all c o h bytes sized whole room =
 other : (of_id : SampleIdValue → Option ℕ) (read : List ℕ → ℕ) (c : Configuration) (o : Order) (place : Place) (h : perf_event_header) (bytes : List ℕ) →
     8 ≤ h.size → length bytes ≡ length_after h → (h.type_ ≡ 9 → ⊥) →
     ((ids : List ℕ) → length ids ≡ id_length c h.type_ → of_id (value o ids 0 (id_of_type c h.type_)) ≡ option_map read (if place.present then eight_at ids place.in_id else None)) →
-    MatchResult (split_after c o h bytes) (λ parts. option_map read (bytes_at c place h bytes) ≡ of_id parts.metadata.sample_id) (λ e. option_map read (bytes_at c place h bytes) ≡ None)
+    MatchResult (split_after c o h bytes) (λ parts. option_map read (place_bytes c place h bytes) ≡ of_id parts.metadata.sample_id) (λ e. option_map read (place_bytes c place h bytes) ≡ None)
 other of_id read c o place h bytes sized whole sample transition = elim (cases_lt (length bytes) (id_length c h.type_)) [
   | inl short ↦
       let small : split_after c o h bytes ≡ Err InvalidRecord = split_no_room c o h bytes sized (omega arith) (omega arith) in
@@ -70,7 +70,7 @@ other of_id read c o place h bytes sized whole sample transition = elim (cases_l
 ]
   where
     P : Result FrameParts ErrorKind → Type 0
-    P r = MatchResult r (λ parts. option_map read (bytes_at c place h bytes) ≡ of_id parts.metadata.sample_id) (λ e. option_map read (bytes_at c place h bytes) ≡ None)
+    P r = MatchResult r (λ parts. option_map read (place_bytes c place h bytes) ≡ of_id parts.metadata.sample_id) (λ e. option_map read (place_bytes c place h bytes) ≡ None)
 
 -- ---- samples
 
@@ -94,7 +94,7 @@ sample_run c o h bytes s sized whole is answer =
 sampled : (of_sample : SampleValue → Option ℕ) (read : List ℕ → ℕ) (c : Configuration) (o : Order) (place : Place) (h : perf_event_header) (bytes : List ℕ) →
     8 ≤ h.size → length bytes ≡ length_after h →
     ((s : SampleValue) → Made o (under_misc h.misc c) bytes s → of_sample s ≡ option_map read (if place.present then eight_at bytes place.in_sample else None)) →
-    h.type_ ≡ 9 → (s : SampleValue) → answer_after c o h bytes ≡ Ok (sample_is s) → option_map read (bytes_at c place h bytes) ≡ of_sample s
+    h.type_ ≡ 9 → (s : SampleValue) → answer_after c o h bytes ≡ Ok (sample_is s) → option_map read (place_bytes c place h bytes) ≡ of_sample s
 sampled of_sample read c o place h bytes sized whole transition is s answer =
     let nine : (h.type_ == 9) ≡ true = ap (λ ty. ty == 9) is in
     ap (option_map read) (pick_sample place.present (h.type_ == 9) _ _ nine) ∙ sym (transition s (sample_run c o h bytes s sized whole is answer))
@@ -102,7 +102,7 @@ sampled of_sample read c o place h bytes sized whole transition is s answer =
 pub time_read : (c : Configuration) (o : Order) (h : perf_event_header) (bytes : List ℕ) → 8 ≤ h.size → length bytes ≡ length_after h →
     IsRead (λ s. (getters_of s).time) (λ id. id.time) c o h bytes (time_in c o h bytes)
 time_read c o h bytes sized whole =
-    let place : Place = field_place c.sample_type time_field in (
+    let place : Place = number_place c.sample_type time_field in (
       sampled (λ s. (getters_of s).time) o.eight c o place h bytes sized whole (λ s made. sample_time o (under_misc h.misc c) bytes s made),
       (λ sample. other (λ id. id.time) o.eight c o place h bytes sized whole sample (of_type (λ id. id.time) o.eight c o h.type_ place.present place.in_id refl (id_time o c.sample_type))),
     )
@@ -110,7 +110,7 @@ time_read c o h bytes sized whole =
 pub pid_read : (c : Configuration) (o : Order) (h : perf_event_header) (bytes : List ℕ) → 8 ≤ h.size → length bytes ≡ length_after h →
     IsRead (λ s. (getters_of s).pid) (λ id. id.pid) c o h bytes (pid_in c o h bytes)
 pid_read c o h bytes sized whole =
-    let place : Place = field_place c.sample_type task_field in (
+    let place : Place = number_place c.sample_type task_field in (
       sampled (λ s. (getters_of s).pid) (first_half o) c o place h bytes sized whole (λ s made. sample_pid_is o (under_misc h.misc c) bytes s made),
       (λ sample. other (λ id. id.pid) (first_half o) c o place h bytes sized whole sample (of_type (λ id. id.pid) (first_half o) c o h.type_ place.present place.in_id refl (id_pid o c.sample_type))),
     )
@@ -118,7 +118,7 @@ pid_read c o h bytes sized whole =
 pub tid_read : (c : Configuration) (o : Order) (h : perf_event_header) (bytes : List ℕ) → 8 ≤ h.size → length bytes ≡ length_after h →
     IsRead (λ s. (getters_of s).tid) (λ id. id.tid) c o h bytes (tid_in c o h bytes)
 tid_read c o h bytes sized whole =
-    let place : Place = field_place c.sample_type task_field in (
+    let place : Place = number_place c.sample_type task_field in (
       sampled (λ s. (getters_of s).tid) (second_half o) c o place h bytes sized whole (λ s made. sample_tid_is o (under_misc h.misc c) bytes s made),
       (λ sample. other (λ id. id.tid) (second_half o) c o place h bytes sized whole sample (of_type (λ id. id.tid) (second_half o) c o h.type_ place.present place.in_id refl (id_tid o c.sample_type))),
     )
@@ -126,7 +126,7 @@ tid_read c o h bytes sized whole =
 pub cpu_read : (c : Configuration) (o : Order) (h : perf_event_header) (bytes : List ℕ) → 8 ≤ h.size → length bytes ≡ length_after h →
     IsRead (λ s. (getters_of s).cpu) (λ id. id.cpu) c o h bytes (cpu_in c o h bytes)
 cpu_read c o h bytes sized whole =
-    let place : Place = field_place c.sample_type cpu_field in (
+    let place : Place = number_place c.sample_type cpu_field in (
       sampled (λ s. (getters_of s).cpu) (first_half o) c o place h bytes sized whole (λ s made. sample_cpu o (under_misc h.misc c) bytes s made),
       (λ sample. other (λ id. id.cpu) (first_half o) c o place h bytes sized whole sample (of_type (λ id. id.cpu) (first_half o) c o h.type_ place.present place.in_id refl (id_cpu o c.sample_type))),
     )
@@ -135,7 +135,7 @@ pub id_read : (c : Configuration) (o : Order) (h : perf_event_header) (bytes : L
     IsRead (λ s. (getters_of s).id) (λ id. id.id) c o h bytes (id_in c o h bytes)
 id_read c o h bytes sized whole =
     let t : ℕ = c.sample_type in
-    let place : Place = field_place t (event_field t) in (
+    let place : Place = number_place t (event_field t) in (
       sampled (λ s. (getters_of s).id) o.eight c o place h bytes sized whole (λ s made. sample_id_read o (under_misc h.misc c) bytes s made),
       (λ sample. other (λ id. id.id) o.eight c o place h bytes sized whole sample
           (of_type (λ id. id.id) o.eight c o h.type_ place.present place.in_id refl

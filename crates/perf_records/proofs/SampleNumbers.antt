@@ -13,7 +13,7 @@ use Rattle.perf_base.proofs.Bridge.{run_yes, run_no}
 use Rattle.perf_base.proofs.Tables.{cons_inv}
 use Rattle.perf_reader.proofs.AtOnce.{in_front}
 use Rattle.perf_sample_types.proofs.Flags.{only_flag}
-use Rattle.perf_sample_types.specs.Sample.{FieldValue, number_is, task_is, Field, SampleValue, plain, task, cpu, at_flag, is_present, settings_of, fields_under, sample_fields, sample}
+use Rattle.perf_sample_types.specs.Sample.{FieldValue, number_is, task_is, Field, SampleValue, plain_field, task, cpu, at_flag, is_present, settings_of, fields_under, sample_fields, sample}
 use Rattle.perf_sample_types.specs.SampleGetters.{field_at, number_in}
 use Rattle.perf_sample_types.specs.SampleGetters.{pid_of_task, tid_of_task}
 use Rattle.perf_sample_types.specs.SampleId.{one_if, first_of}
@@ -29,7 +29,7 @@ record IsEight (o : Order) (p : Parts FieldValue) (f : List ℕ → FieldValue) 
   fits : (bytes : List ℕ) → 8 ≤ length bytes → run_parts o p bytes ≡ ran (f (take 8 bytes)) (drop 8 bytes)
   lacks : (bytes : List ℕ) (v : FieldValue) (left : List ℕ) → length bytes < 8 → run_parts o p bytes ≡ ran v left → ⊥
 
-eight_plain : (o : Order) → IsEight o plain (λ bytes. number_is (o.eight bytes))
+eight_plain : (o : Order) → IsEight o plain_field (λ bytes. number_is (o.eight bytes))
 eight_plain o = record {
   fits = λ bytes long. run_yes o (number w8) (λ n. done (number_is n)) bytes 8 refl long;
   lacks = λ bytes v left short e. let no = sym e ∙ run_no o (number w8) (λ n. done (number_is n)) bytes short in absurd (cc);
@@ -181,24 +181,24 @@ abbrev pub Made : Order → Configuration → List ℕ → SampleValue → Type 
 Made o c bytes s = (left : List ℕ) × (run_parts o (sample c) bytes ≡ ran s left)
 
 abbrev task_front : List Field
-task_front = at_flag 16 plain ∷ at_flag 0 plain ∷ []
+task_front = at_flag 16 plain_field ∷ at_flag 0 plain_field ∷ []
 
 abbrev time_front : List Field
-time_front = at_flag 16 plain ∷ at_flag 0 plain ∷ at_flag 1 task ∷ []
+time_front = at_flag 16 plain_field ∷ at_flag 0 plain_field ∷ at_flag 1 task ∷ []
 
 abbrev id_front : List Field
-id_front = at_flag 16 plain ∷ at_flag 0 plain ∷ at_flag 1 task ∷ at_flag 2 plain ∷ at_flag 3 plain ∷ []
+id_front = at_flag 16 plain_field ∷ at_flag 0 plain_field ∷ at_flag 1 task ∷ at_flag 2 plain_field ∷ at_flag 3 plain_field ∷ []
 
 abbrev cpu_front : List Field
 cpu_front =
-    at_flag 16 plain ∷ at_flag 0 plain ∷ at_flag 1 task ∷ at_flag 2 plain ∷ at_flag 3 plain ∷ at_flag 6 plain ∷ at_flag 9 plain ∷ []
+    at_flag 16 plain_field ∷ at_flag 0 plain_field ∷ at_flag 1 task ∷ at_flag 2 plain_field ∷ at_flag 3 plain_field ∷ at_flag 6 plain_field ∷ at_flag 9 plain_field ∷ []
 
 pub sample_time : (o : Order) (c : Configuration) (bytes : List ℕ) (s : SampleValue) → Made o c bytes s →
     number_in (field_at s 3) ≡ option_map o.eight (if has_bit c.sample_type 2 then eight_at bytes (bytes_of c.sample_type time_field.in_sample) else None)
 unfolding sample AllEight
 sample_time o c bytes s made =
     let p = eight_plain o in
-    ap number_in ((field_transition o c time_front (at_flag 2 plain) (drop 4 sample_fields) (λ bytes. number_is (o.eight bytes)) ((_, p), ((_, p), ((_, eight_task o), tt))) p bytes s made.0 made.1).0)
+    ap number_in ((field_transition o c time_front (at_flag 2 plain_field) (drop 4 sample_fields) (λ bytes. number_is (o.eight bytes)) ((_, p), ((_, p), ((_, eight_task o), tt))) p bytes s made.0 made.1).0)
     ∙ number_of o.eight _ ∙ simp only_flag
 
 pub sample_pid_is : (o : Order) (c : Configuration) (bytes : List ℕ) (s : SampleValue) → Made o c bytes s →
@@ -230,7 +230,7 @@ sample_own_id : (o : Order) (c : Configuration) (bytes : List ℕ) (s : SampleVa
 unfolding sample AllEight
 sample_own_id o c bytes s made =
     let p = eight_plain o in
-    ap number_in ((field_transition o c id_front (at_flag 6 plain) (drop 6 sample_fields) _ ((_, p), ((_, p), ((_, eight_task o), ((_, p), ((_, p), tt))))) p bytes s made.0 made.1).0)
+    ap number_in ((field_transition o c id_front (at_flag 6 plain_field) (drop 6 sample_fields) _ ((_, p), ((_, p), ((_, eight_task o), ((_, p), ((_, p), tt))))) p bytes s made.0 made.1).0)
     ∙ number_of o.eight _ ∙ simp only_flag
 
 -- its bytes are present, if it is
@@ -239,13 +239,13 @@ sample_room : (o : Order) (c : Configuration) (bytes : List ℕ) (s : SampleValu
 unfolding sample AllEight
 sample_room o c bytes s made =
     let p = eight_plain o in
-    simp only_flag at ((field_transition o c id_front (at_flag 6 plain) (drop 6 sample_fields) (λ bytes. number_is (o.eight bytes)) ((_, p), ((_, p), ((_, eight_task o), ((_, p), ((_, p), tt))))) p bytes s made.0 made.1).1)
+    simp only_flag at ((field_transition o c id_front (at_flag 6 plain_field) (drop 6 sample_fields) (λ bytes. number_is (o.eight bytes)) ((_, p), ((_, p), ((_, eight_task o), ((_, p), ((_, p), tt))))) p bytes s made.0 made.1).1)
 
 pub sample_identifier : (o : Order) (c : Configuration) (bytes : List ℕ) (s : SampleValue) → Made o c bytes s →
     number_in (field_at s 0) ≡ option_map o.eight (if has_bit c.sample_type 16 then eight_at bytes 0 else None)
 unfolding sample AllEight
 sample_identifier o c bytes s made =
-    ap number_in ((field_transition o c [] (at_flag 16 plain) (drop 1 sample_fields) _ tt (eight_plain o) bytes s made.0 made.1).0)
+    ap number_in ((field_transition o c [] (at_flag 16 plain_field) (drop 1 sample_fields) _ tt (eight_plain o) bytes s made.0 made.1).0)
     ∙ number_of o.eight _ ∙ simp only_flag
 
 -- ---- the event's id, of ID or else of IDENTIFIER

@@ -64,8 +64,8 @@ abbrev pub event_field : (sample_type : ℕ) → NumberField
 event_field t = if has_bit t 6 then id_field else identifier_field
 
 -- the place of a field under a sample type
-abbrev pub field_place : (sample_type : ℕ) → NumberField → Place
-field_place t field = record {
+abbrev pub number_place : (sample_type : ℕ) → NumberField → Place
+number_place t field = record {
   present = has_bit t field.flag;
   in_sample = bytes_of t field.in_sample;
   in_id = bytes_of t field.in_id;
@@ -74,8 +74,8 @@ field_place t field = record {
 -- The eight bytes of a field, in a frame with these bytes after its header: None if the sample type
 -- does not have its flag, if a SAMPLE ends before them, or if another frame has no sample id or is
 -- too short for it.
-abbrev pub bytes_at : Configuration → Place → perf_event_header → List ℕ → Option (List ℕ)
-bytes_at c place h bytes =
+abbrev pub place_bytes : Configuration → Place → perf_event_header → List ℕ → Option (List ℕ)
+place_bytes c place h bytes =
     if place.present
     then (if h.type_ == 9 then eight_at bytes place.in_sample
     else (if nat_le (id_length c h.type_) (length bytes)
@@ -85,7 +85,7 @@ bytes_at c place h bytes =
 
 -- the same of a field
 abbrev pub field_bytes : Configuration → NumberField → perf_event_header → List ℕ → Option (List ℕ)
-field_bytes c field h bytes = bytes_at c (field_place c.sample_type field) h bytes
+field_bytes c field h bytes = place_bytes c (number_place c.sample_type field) h bytes
 
 -- ---- numbers
 

@@ -40,7 +40,7 @@ fn len_of(field: SampleFlags, flags: SampleFlags) -> usize
 #[inline]
 #[tactic(auto, using(crate::proofs::FrameFlags::number_flags))]
 fn time_place(flags: SampleFlags) -> Place
-    ensures { result ≡ numbers.field_place (sample_flags_bits flags) numbers.time_field }
+    ensures { result ≡ numbers.number_place (sample_flags_bits flags) numbers.time_field }
 {
     let task = len_of(SampleFlags::TID, flags);
     Place {
@@ -53,7 +53,7 @@ fn time_place(flags: SampleFlags) -> Place
 #[inline]
 #[tactic(auto, using(crate::proofs::FrameFlags::number_flags))]
 fn task_place(flags: SampleFlags) -> Place
-    ensures { result ≡ numbers.field_place (sample_flags_bits flags) numbers.task_field }
+    ensures { result ≡ numbers.number_place (sample_flags_bits flags) numbers.task_field }
 {
     Place {
         present: flags.contains(SampleFlags::TID),
@@ -65,7 +65,7 @@ fn task_place(flags: SampleFlags) -> Place
 #[inline]
 #[tactic(auto, using(crate::proofs::FrameFlags::number_flags))]
 fn id_place(flags: SampleFlags) -> Place
-    ensures { result ≡ numbers.field_place (sample_flags_bits flags) numbers.id_field }
+    ensures { result ≡ numbers.number_place (sample_flags_bits flags) numbers.id_field }
 {
     let task = len_of(SampleFlags::TID, flags);
     let time = len_of(SampleFlags::TIME, flags);
@@ -82,7 +82,7 @@ fn id_place(flags: SampleFlags) -> Place
 #[inline]
 #[tactic(auto, using(crate::proofs::FrameFlags::number_flags))]
 fn cpu_place(flags: SampleFlags) -> Place
-    ensures { result ≡ numbers.field_place (sample_flags_bits flags) numbers.cpu_field }
+    ensures { result ≡ numbers.number_place (sample_flags_bits flags) numbers.cpu_field }
 {
     let id = id_place(flags);
     let ids = len_of(SampleFlags::ID, flags) + len_of(SampleFlags::STREAM_ID, flags);
@@ -96,7 +96,7 @@ fn cpu_place(flags: SampleFlags) -> Place
 #[inline]
 #[tactic(auto, using(crate::proofs::FrameFlags::number_flags))]
 fn identifier_place(flags: SampleFlags) -> Place
-    ensures { result ≡ numbers.field_place (sample_flags_bits flags) numbers.identifier_field }
+    ensures { result ≡ numbers.number_place (sample_flags_bits flags) numbers.identifier_field }
 {
     let cpu = cpu_place(flags);
     Place {
@@ -110,7 +110,7 @@ fn identifier_place(flags: SampleFlags) -> Place
 #[inline]
 #[tactic(auto, using(crate::proofs::FrameFlags::number_flags))]
 fn event_place(flags: SampleFlags) -> Place
-    ensures { result ≡ numbers.field_place (sample_flags_bits flags)
+    ensures { result ≡ numbers.number_place (sample_flags_bits flags)
         (numbers.event_field (sample_flags_bits flags)) }
 {
     if flags.contains(SampleFlags::ID) {
@@ -153,7 +153,7 @@ impl<'c, 'p> Frame<'c, 'p> {
     // The eight bytes of the field at that place.
     #[inline]
     fn field<E>(&self, config: &ParseConfig<E>, place: Place) -> Option<[u8; 8]>
-        ensures { result ≡ numbers.bytes_at (configuration_of config.now) place self.now.header
+        ensures { result ≡ numbers.place_bytes (configuration_of config.now) place self.now.header
             (chunk_bytes self.now.rest) }
     {
         if !place.present {

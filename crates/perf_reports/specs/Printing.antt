@@ -27,9 +27,9 @@ found_value (found.Record it) = record_value it.now
 found_value (found.Sample it) = sample_is (sample_value it.now)
 
 -- the line of a record in a report, if it has one
-abbrev pub line_in : Report → RecordValue → Option (List ℕ)
-line_in Tasks r = tasks.task_line_of r
-line_in Samples r = samples.sample_line_of r
+abbrev pub report_line : Report → RecordValue → Option (List ℕ)
+report_line Tasks r = tasks.task_line_of r
+report_line Samples r = samples.sample_line_of r
 
 -- a line with a line feed after it, or nothing
 abbrev pub with_feed : Option (List ℕ) → List ℕ
@@ -38,7 +38,7 @@ with_feed None = []
 
 -- what is printed of a record
 abbrev pub text_of_record : Report → RecordValue → List ℕ
-text_of_record report r = with_feed (line_in report r)
+text_of_record report r = with_feed (report_line report r)
 
 -- what is printed of the result of a frame: nothing if it was refused
 abbrev pub printed_answer : Report → perf_event_header × Result RecordValue ErrorKind → List ℕ

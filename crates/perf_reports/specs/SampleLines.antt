@@ -48,14 +48,14 @@ moment g =
     ++ (codes " " ++ (decimal_word g.pid ++ (codes "/" ++ decimal_word g.tid)))))
 
 -- how many events it stands for, the address that was accessed, and that of the code
-abbrev pub event : Getters → List ℕ
-event g =
+abbrev pub event_words : Getters → List ℕ
+event_words g =
     decimal_word g.period ++ (codes " " ++ (hex_word g.addr
     ++ (codes " " ++ (hex_word g.ip ++ codes ":"))))
 
 -- both, and the call chain
 abbrev pub sample_line : Getters → List ℕ
-sample_line g = moment g ++ (codes " " ++ (event g ++ chain g.callchain))
+sample_line g = moment g ++ (codes " " ++ (event_words g ++ chain g.callchain))
 
 -- the line of a record that is a sample
 abbrev pub sample_line_of : RecordValue → Option (List ℕ)

@@ -30,8 +30,8 @@ letter word bit set unset = if bit_and word bit == 0 then unset else set
 -- ---- parts of a mapping
 
 -- its address, its length, and its offset in the file
-abbrev pub place : (addr len pgoff : ℕ) → List ℕ
-place addr len pgoff = join_words (hex addr ∷ hex len ∷ hex pgoff ∷ [])
+abbrev pub place_words : (addr len pgoff : ℕ) → List ℕ
+place_words addr len pgoff = join_words (hex addr ∷ hex len ∷ hex pgoff ∷ [])
 
 -- how its memory may be used: readable, writable, executable, and shared or private
 abbrev pub protection : (prot flags : ℕ) → List ℕ
@@ -40,13 +40,13 @@ protection prot flags =
     ++ (letter prot 4 (codes "x") (codes "-") ++ letter flags 1 (codes "s") (codes "p")))
 
 -- a file by its device, its inode and its generation
-abbrev pub inode : (maj min ino generation : ℕ) → List ℕ
-inode maj min ino generation =
+abbrev pub inode_words : (maj min ino generation : ℕ) → List ℕ
+inode_words maj min ino generation =
     join_words ((hex maj ++ (codes ":" ++ hex min)) ∷ decimal ino ∷ decimal generation ∷ [])
 
 -- the file of a mapping: its inode, or the digits of its build id
 abbrev pub file : DetailValue → List ℕ
-file (inode_is maj min ino generation) = inode maj min ino generation
+file (inode_is maj min ino generation) = inode_words maj min ino generation
 file (build_id_is id) = hex_bytes id
 
 -- a namespace: the device and the inode of its file
@@ -95,39 +95,39 @@ escape_name bytes = escaped_within (length bytes) bytes
 
 -- no byte of a line is a control character of ASCII: none is below 32, and none is 127
 abbrev pub HasNoControl : List ℕ → Type 0
-HasNoControl line = All (λ byte. (32 ≤ byte) × ¬ (byte ≡ 127)) line
+HasNoControl line_about = All (λ byte. (32 ≤ byte) × ¬ (byte ≡ 127)) line_about
 
 -- ---- lines
 
 -- the kind of the line, the task, and the rest of the line
-abbrev pub line : (what : List ℕ) (pid tid : ℕ) (rest : List ℕ) → List ℕ
-line what pid tid rest = join_words (what ∷ decimal pid ∷ decimal tid ∷ rest ∷ [])
+abbrev pub line_about : (what : List ℕ) (pid tid : ℕ) (rest : List ℕ) → List ℕ
+line_about what pid tid rest = join_words (what ∷ decimal pid ∷ decimal tid ∷ rest ∷ [])
 
 -- the new name of a task
 abbrev pub comm_line : CommValue → List ℕ
-comm_line r = line (codes "comm") r.pid r.tid (escape_name r.comm)
+comm_line r = line_about (codes "comm") r.pid r.tid (escape_name r.comm)
 
 -- a mapping: its address, and its name
 abbrev pub mmap_line : MmapValue → List ℕ
 mmap_line r =
-    line (codes "mmap") r.pid r.tid
-    (join_words (place r.addr r.len r.pgoff ∷ escape_name r.filename ∷ []))
+    line_about (codes "mmap") r.pid r.tid
+    (join_words (place_words r.addr r.len r.pgoff ∷ escape_name r.filename ∷ []))
 
 -- the same, with its file and how its memory may be used
 abbrev pub mmap2_line : Mmap2Value → List ℕ
 mmap2_line r =
-    line (codes "mmap2") r.pid r.tid
-    (join_words (place r.addr r.len r.pgoff ∷ file r.detail ∷ protection r.prot r.flags
+    line_about (codes "mmap2") r.pid r.tid
+    (join_words (place_words r.addr r.len r.pgoff ∷ file r.detail ∷ protection r.prot r.flags
     ∷ escape_name r.filename ∷ []))
 
 -- the start or the end of a task, and the task that made it or its parent
 abbrev pub task_line : List ℕ → Exit → List ℕ
-task_line what r = line what r.pid r.tid (join_words (decimal r.ppid ∷ decimal r.ptid ∷ []))
+task_line what r = line_about what r.pid r.tid (join_words (decimal r.ppid ∷ decimal r.ptid ∷ []))
 
 -- the namespaces of a task, separated by commas
 abbrev pub namespaces_line : NamespacesValue → List ℕ
 namespaces_line r =
-    line (codes "namespaces") r.pid r.tid (join_by namespace (codes ",") r.namespaces)
+    line_about (codes "namespaces") r.pid r.tid (join_by namespace (codes ",") r.namespaces)
 
 -- the line of a record about a task
 abbrev pub task_line_of : RecordValue → Option (List ℕ)

@@ -5,7 +5,7 @@ ghost use Rattle.std.specs.Prelude.{OnOk, IfOk, IfErr, IfSome, Some, if◌then�
 ghost use Rattle.std.specs.Io.KnownBytes.{Appends};
 ghost use Rattle.anyhow.specs.Error.{HasMessage};
 ghost use Rattle.perf_buffers.specs.Prelude.{reader_remaining};
-ghost use Rattle.perf_parser.specs.Prelude.{buffer_of, config_of, state_of};
+ghost use Rattle.perf_parser.specs.Prelude.{parser_buffer, parser_config, parser_state};
 ghost use Rattle.perf_reports.specs.FramePrinting.{PrintsAll, PrintsFirst, PrintsLines, PrintsRecording, PrintsRun, answers_left, recording_answers};
 ghost use Rattle.perf_reports.specs.Printing.{attribute_message, found_value, text_of_record, printed_answers, is_memory};
 ghost use Rattle.perf_reports.specs.Printing.{Grows, GrowsWithin, StopsReading};
@@ -313,13 +313,13 @@ fn print_records<'p, B: ParseBuf<'p>, O: Endian, W: Write, E: Write>(
     parser: &mut Parser<B, O>,
     printer: &mut FramePrinter<W, E>,
 ) -> Result<bool>
-    ensures all { IsTrue (B.source (buffer_of parser.old)).told → IfOk result (λ clean.
-        PrintsAll W.contents E.contents printer.old (state_of B.source O.order parser.old) clean
+    ensures all { IsTrue (B.source (parser_buffer parser.old)).told → IfOk result (λ clean.
+        PrintsAll W.contents E.contents printer.old (parser_state B.source O.order parser.old) clean
         printer.new) }
-    ensures part { IsTrue (B.source (buffer_of parser.old)).told →
+    ensures part { IsTrue (B.source (parser_buffer parser.old)).told →
         GrowsWithin (W.contents printer.old.output) (W.contents printer.new.output)
         (string_bytes printer.old.lines.gathered ++ printed_answers printer.old.report
-        (answers_left (state_of B.source O.order parser.old))) }
+        (answers_left (parser_state B.source O.order parser.old))) }
 {
     for _ in 0..u64::MAX {
         let end = match print_frames(parser, printer) {
@@ -340,20 +340,20 @@ fn print_frames<'p, B: ParseBuf<'p>, O: Endian, W: Write, E: Write>(
     parser: &mut Parser<B, O>,
     printer: &mut FramePrinter<W, E>,
 ) -> Result<RunEnd, Stopped>
-    ensures config { config_of parser.new ≡ config_of parser.old }
-    ensures told { IsTrue (B.source (buffer_of parser.old)).told →
-        IsTrue (B.source (buffer_of parser.new)).told }
-    ensures sent { IsTrue (B.source (buffer_of parser.old)).told → IfOk result (λ end.
-        PrintsRun W.contents E.contents printer.old (state_of B.source O.order parser.old) BATCH end
-        (B.source (buffer_of parser.new)).left printer.new) }
+    ensures config { parser_config parser.new ≡ parser_config parser.old }
+    ensures told { IsTrue (B.source (parser_buffer parser.old)).told →
+        IsTrue (B.source (parser_buffer parser.new)).told }
+    ensures sent { IsTrue (B.source (parser_buffer parser.old)).told → IfOk result (λ end.
+        PrintsRun W.contents E.contents printer.old (parser_state B.source O.order parser.old) BATCH end
+        (B.source (parser_buffer parser.new)).left printer.new) }
     ensures none { OnOk result (string_bytes printer.new.lines.gathered ≡ []) }
-    ensures part { IsTrue (B.source (buffer_of parser.old)).told →
+    ensures part { IsTrue (B.source (parser_buffer parser.old)).told →
         GrowsWithin (W.contents printer.old.output) (W.contents printer.new.output)
         (string_bytes printer.old.lines.gathered ++ printed_answers printer.old.report
-        (take BATCH (answers_left (state_of B.source O.order parser.old)))) }
-    ensures refused { IsTrue (B.source (buffer_of parser.old)).told → IfErr result (λ stopped.
+        (take BATCH (answers_left (parser_state B.source O.order parser.old)))) }
+    ensures refused { IsTrue (B.source (parser_buffer parser.old)).told → IfErr result (λ stopped.
         IsTrue (is_memory stopped) → (k : ℕ) × PrintsFirst W.contents E.contents printer.old
-        (answers_left (state_of B.source O.order parser.old)) k printer.new) }
+        (answers_left (parser_state B.source O.order parser.old)) k printer.new) }
 {
     let run = each_frame(parser, BATCH, printer);
     match run.end {

@@ -91,7 +91,7 @@ fn put_moment(strip: &mut Strip, sample: &Sample)
 fn put_event(strip: &mut Strip, sample: &Sample)
     requires { 59 ≤ room_of strip.old }
     ensures text { strip_text strip.new
-        ≡ printed.event (getters_of (values.sample_value sample.now)) ++ strip_text strip.old }
+        ≡ printed.event_words (getters_of (values.sample_value sample.now)) ++ strip_text strip.old }
     ensures room { room_of strip.old ≤ room_of strip.new + 59 }
 {
     strip.put(":");

@@ -3,7 +3,7 @@
 ghost use Rattle.std.specs.Prelude.{◌≡◌, true, Ok, Err, IsTrue, IfOk, IfErr};
 ghost use Rattle.perf_base.specs.Configured.{configuration_of, endian_of};
 ghost use Rattle.perf_buffers.specs.Prelude.{BufferInvariant};
-ghost use Rattle.perf_parser.specs.Prelude.{buffer_of, config_of, kind_of, of_layout};
+ghost use Rattle.perf_parser.specs.Prelude.{parser_buffer, parser_config, kind_of, of_layout};
 ghost use Rattle.perf_parser.specs.Runs.{end_refusal};
 ghost use Rattle.perf_reader.specs.Reading.{is_external};
 ghost use Rattle.perf_reports.specs.Counting.{CountsRun, CountsStream, attribute_in};
@@ -62,19 +62,19 @@ pub fn count_records<'p, B: ParseBuf<'p>, E: Endian>(
     alloc: Global,
     parser: &mut Parser<B, E>,
 ) -> (Counts, RunEnd)
-    ensures config { config_of parser.new ≡ config_of parser.old }
-    ensures counts { IsTrue (B.source (buffer_of parser.old)).told →
-        CountsRun (configuration_of (config_of parser.old)) (E.order (endian_of (config_of parser.old)))
-        MOST_FRAMES (B.source (buffer_of parser.old)).left result.0 result.1
-        (B.source (buffer_of parser.new)).left }
+    ensures config { parser_config parser.new ≡ parser_config parser.old }
+    ensures counts { IsTrue (B.source (parser_buffer parser.old)).told →
+        CountsRun (configuration_of (parser_config parser.old)) (E.order (endian_of (parser_config parser.old)))
+        MOST_FRAMES (B.source (parser_buffer parser.old)).left result.0 result.1
+        (B.source (parser_buffer parser.new)).left }
 
     // A fault of the buffer ends it as such, and nothing else does.
-    ensures buffer { IsTrue (B.source (buffer_of parser.old)).told →
-        BufferInvariant (B.source (buffer_of parser.old)) (end_refusal result.1)
-        (B.source (buffer_of parser.new)) }
-    ensures fault { IsTrue (B.source (buffer_of parser.old)).told →
+    ensures buffer { IsTrue (B.source (parser_buffer parser.old)).told →
+        BufferInvariant (B.source (parser_buffer parser.old)) (end_refusal result.1)
+        (B.source (parser_buffer parser.new)) }
+    ensures fault { IsTrue (B.source (parser_buffer parser.old)).told →
         is_external (end_refusal result.1) ≡ true →
-        IsTrue (B.source (buffer_of parser.old)).can_fault }
+        IsTrue (B.source (parser_buffer parser.old)).can_fault }
 {
     let mut counter = FrameCounter::new(alloc);
     let run = each_frame(parser, MOST_FRAMES, &mut counter);

@@ -129,7 +129,7 @@ fn push_namespaces(text: &mut String, namespaces: &Namespaces) -> Result<(), All
 // Writes the kind of the line and the task before the rest of the line.
 fn put_head(strip: &mut Strip, what: &str, pid: u32, tid: u32)
     requires { (length what.now ≤ 16) × (59 ≤ room_of strip.old) }
-    ensures text { strip_text strip.new ≡ printed.line what.now pid tid (strip_text strip.old) }
+    ensures text { strip_text strip.new ≡ printed.line_about what.now pid tid (strip_text strip.old) }
     ensures room { room_of strip.old ≤ room_of strip.new + 59 }
 {
     strip.put(" ");
@@ -143,7 +143,7 @@ fn put_head(strip: &mut Strip, what: &str, pid: u32, tid: u32)
 // Writes the address of a mapping, its length, and its offset in the file.
 fn put_place(strip: &mut Strip, addr: u64, len: u64, pgoff: u64)
     requires { 56 ≤ room_of strip.old }
-    ensures text { strip_text strip.new ≡ printed.place addr len pgoff ++ strip_text strip.old }
+    ensures text { strip_text strip.new ≡ printed.place_words addr len pgoff ++ strip_text strip.old }
     ensures room { room_of strip.old ≤ room_of strip.new + 56 }
 {
     strip.put_hex(pgoff);
@@ -175,7 +175,7 @@ fn push_file(text: &mut String, strip: &mut Strip, map: &Mmap2) -> Result<(), Al
 fn put_inode(strip: &mut Strip, maj: u32, min: u32, ino: u64, generation: u64)
     requires { 79 ≤ room_of strip.old }
     ensures text { strip_text strip.new
-        ≡ printed.inode maj min ino generation ++ strip_text strip.old }
+        ≡ printed.inode_words maj min ino generation ++ strip_text strip.old }
     ensures room { room_of strip.old ≤ room_of strip.new + 79 }
 {
     strip.put_number(generation);

@@ -8,7 +8,7 @@ use Rattle.perf_base.specs.Table.{present_if}
 use Rattle.perf_types.specs.ReadFormat.{has_group}
 use Rattle.perf_types.specs.ReadGroup.{read_group, group_of}
 use Rattle.perf_types.specs.ReadValue.{read_value}
-use Rattle.perf_sample_types.specs.Sample.{Field, FieldValue, group_is, values, branch_stack, registers, plain, settings_of, is_present, field_under, fields_under, sample_fields, sample_groups, moment_fields, count_fields, state_fields, cost_fields, memory_fields}
+use Rattle.perf_sample_types.specs.Sample.{Field, FieldValue, group_is, values, branch_stack, registers, plain_field, settings_of, is_present, field_under, fields_under, sample_fields, sample_groups, moment_fields, count_fields, state_fields, cost_fields, memory_fields}
 use Rattle.perf_sample_types.proofs.LawFlags.{field_of}
 
 -- ---- each field
@@ -33,7 +33,7 @@ registers_end : (mask : ℕ) → Closed (registers mask)
 unfolding registers
 registers_end mask = (tt, λ abi. (tt, λ regs. tt))
 
-word_ends : (c : Configuration) → Closed plain
+word_ends : (c : Configuration) → Closed plain_field
 word_ends c = (tt, λ n. tt)
 
 moment_ended : AreEnded moment_fields

@@ -21,7 +21,7 @@ use Rattle.perf_types.specs.ReadFormat.{has_group}
 use Rattle.perf_types.specs.ReadGroup.{read_group, group_of}
 use Rattle.perf_types.specs.ReadValue.{read_value}
 use Rattle.perf_words.specs.Bits.{has_bit}
-use Rattle.perf_sample_types.specs.Sample.{FieldValue, group_is, Field, SampleValue, plain, task, cpu, values, call_chain, raw, branch_stack, registers, stack, sized_bytes, settings_of, is_present, fields_under, sample_fields, sample}
+use Rattle.perf_sample_types.specs.Sample.{FieldValue, group_is, Field, SampleValue, plain_field, task, cpu, values, call_chain, raw, branch_stack, registers, stack, sized_bytes, settings_of, is_present, fields_under, sample_fields, sample}
 
 -- ---- how many of the lowest bits are set
 
@@ -88,7 +88,7 @@ ends_within o body s (part shape k) within stands =
 AtLeastEight : {A : Type 0} → Parts A → Type 0
 AtLeastEight p = (o : Order) (body : List ℕ) (s : ℕ) → s + 8 ≤ ending o body s p
 
-of_plain : AtLeastEight plain
+of_plain : AtLeastEight plain_field
 unfolding AtLeastEight
 of_plain o body s = omega arith
 

@@ -18,7 +18,7 @@ use Rattle.perf_reader.specs.ReaderState.{ReaderState, state_of}
 use Rattle.perf_reader.specs.TableRuns.{ReadsTable, before, table_took}
 use Rattle.perf_reader.specs.declared.reader.Reader.{Reader}
 use Rattle.perf_reader.proofs.TableRuns.{field_there, field_absent, places_table}
-use Rattle.perf_sample_types.specs.Sample.{FieldValue, SampleValue, plain, task, cpu, number_is, task_is, has_one}
+use Rattle.perf_sample_types.specs.Sample.{FieldValue, SampleValue, plain_field, task, cpu, number_is, task_is, has_one}
 use Rattle.perf_sample_types.specs.SampleRows.{TakesFront, TakesField, TakesFields}
 use Rattle.perf_sample_types.specs.declared.sample_row.Row.{Row}
 use Rattle.perf_sample_types.proofs.FlaggedFields.{flag_asked}
@@ -41,7 +41,7 @@ last_four bytes word is = sym (drop-take 4 4 bytes) ∙ ap (drop 4) is
 
 -- a number
 pub word_number : (o : Order) (bytes word : List ℕ) (n : ℕ) → 8 ≤ length bytes → take 8 bytes ≡ word →
-    take_parts o plain bytes n ≡ took (number_is (o.eight word)) (drop 8 bytes) (n + 1)
+    take_parts o plain_field bytes n ≡ took (number_is (o.eight word)) (drop 8 bytes) (n + 1)
 word_number o bytes word n fits is =
     step o (number w8) (λ v. done (number_is v)) bytes n fits
     ∙ ap (λ xs. took (number_is (o.eight xs)) (drop 8 bytes) (n + 1)) is

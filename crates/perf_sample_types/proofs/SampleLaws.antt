@@ -11,7 +11,7 @@ use Rattle.perf_base.specs.Splice.{Spells}
 use Rattle.perf_base.specs.Table.{slot, table}
 use Rattle.perf_base.proofs.Algebra.{then_inv}
 use Rattle.perf_base.proofs.Tables.{splice_fields, cut_fields, tables_inv, cons_inv, layout_run}
-use Rattle.perf_sample_types.specs.Sample.{FieldValue, number_is, SampleValue, sample, sample_fields, settings_of, field_under, fields_under, plain}
+use Rattle.perf_sample_types.specs.Sample.{FieldValue, number_is, SampleValue, sample, sample_fields, settings_of, field_under, fields_under, plain_field}
 use Rattle.perf_sample_types.specs.SampleGetters.{field_at, number_in}
 use Rattle.perf_sample_types.specs.SampleId.{first_of}
 use Rattle.perf_sample_types.specs.SampleLaws.{no_field, table_field, id_row, flags_of, row_parts, is_there, with_flag, without_field, splice_field, without_bytes, said_id, said_identifier, ChangesField, KeepsId, SpliceLaw, CutLaw}
@@ -57,7 +57,7 @@ said_at o (x ∷ ys) (suc i) bytes left vs h e =
     let again = said_at o ys i parts.1 left parts.2 (omega arith) parts.4 in
     (again.0, again.1, again.2 ∙ ap (λ t. ran (get_or t (suc i) None) again.1) (sym parts.5))
 
-plain_says : (o : Order) (v : Option FieldValue) (front back : List ℕ) → run_parts o (slot (Some plain)) front ≡ ran v back →
+plain_says : (o : Order) (v : Option FieldValue) (front back : List ℕ) → run_parts o (slot (Some plain_field)) front ≡ ran v back →
     (n : ℕ) × (v ≡ Some (number_is n))
 plain_says o v front back e =
     let first = then_inv o u64 (λ n. done (Some (number_is n))) front v back e in
@@ -71,7 +71,7 @@ id_says : (c : Configuration) (o : Order) (body : List ℕ) (vs : SampleValue) �
 unfolding sample
 id_says c o body vs there e =
     let at = said_at o (under c) id_row body _ vs (within c id_row (omega arith)) (layout_run o (table (under c)) body vs e) in
-    let is_plain : get_or (under c) id_row None ≡ Some plain = field_there c id_row (omega arith) ∙ under_true c (table_field id_row) there in
+    let is_plain : get_or (under c) id_row None ≡ Some plain_field = field_there c id_row (omega arith) ∙ under_true c (table_field id_row) there in
     let says = plain_says o (field_at vs id_row) at.0 at.1 (ap (λ t. run_parts o (slot t) at.0) (sym is_plain) ∙ at.2) in
     (says.0, ap number_in says.1)
 

@@ -38,8 +38,8 @@ pub data FieldValue : Type 0 where
 -- ---- the parts of a field
 
 -- a number of eight bytes
-abbrev pub plain : Parts FieldValue
-plain = map_parts number_is u64
+abbrev pub plain_field : Parts FieldValue
+plain_field = map_parts number_is u64
 
 -- a process and its thread
 abbrev pub task : Parts FieldValue
@@ -132,15 +132,15 @@ at_flag_under flag parts = record { flags = flag ∷ []; parts = parts }
 -- STREAM_ID, CPU, PERIOD, each of eight bytes
 abbrev pub moment_fields : List Field
 moment_fields =
-    at_flag 16 plain ∷
-    at_flag 0 plain ∷
+    at_flag 16 plain_field ∷
+    at_flag 0 plain_field ∷
     at_flag 1 task ∷
-    at_flag 2 plain ∷
-    at_flag 3 plain ∷
-    at_flag 6 plain ∷
-    at_flag 9 plain ∷
+    at_flag 2 plain_field ∷
+    at_flag 3 plain_field ∷
+    at_flag 6 plain_field ∷
+    at_flag 9 plain_field ∷
     at_flag 7 cpu ∷
-    at_flag 8 plain ∷
+    at_flag 8 plain_field ∷
     []
 
 -- the counters that were read, and the call chain: READ, CALLCHAIN
@@ -162,19 +162,19 @@ state_fields =
 -- what it cost: WEIGHT or WEIGHT_STRUCT, DATA_SRC, TRANSACTION, REGS_INTR
 abbrev pub cost_fields : List Field
 cost_fields =
-    record { flags = 14 ∷ 24 ∷ []; parts = λ c. plain } ∷
-    at_flag 15 plain ∷
-    at_flag 17 plain ∷
+    record { flags = 14 ∷ 24 ∷ []; parts = λ c. plain_field } ∷
+    at_flag 15 plain_field ∷
+    at_flag 17 plain_field ∷
     at_flag_under 18 (λ c. registers c.regs_intr) ∷
     []
 
 -- in which memory: PHYS_ADDR, CGROUP, DATA_PAGE_SIZE, CODE_PAGE_SIZE, AUX
 abbrev pub memory_fields : List Field
 memory_fields =
-    at_flag 19 plain ∷
-    at_flag 21 plain ∷
-    at_flag 22 plain ∷
-    at_flag 23 plain ∷
+    at_flag 19 plain_field ∷
+    at_flag 21 plain_field ∷
+    at_flag 22 plain_field ∷
+    at_flag 23 plain_field ∷
     at_flag 20 sized_bytes ∷
     []
 

@@ -11,7 +11,7 @@ use Rattle.perf_base.specs.Order.{Order}
 use Rattle.perf_base.specs.Splice.{Spells, put_in, take_out}
 use Rattle.perf_base.specs.Table.{place_of}
 use Rattle.perf_sample_types.specs.Sample.{Field, FieldValue, SampleValue, sample}
-use Rattle.perf_sample_types.specs.Sample.{sample_fields, fields_under, is_present, settings_of, plain}
+use Rattle.perf_sample_types.specs.Sample.{sample_fields, fields_under, is_present, settings_of, plain_field}
 use Rattle.perf_sample_types.specs.SampleGetters.{field_at, number_in, getters_of}
 use Rattle.perf_words.specs.Bits.{has_bit}
 
@@ -19,7 +19,7 @@ use Rattle.perf_words.specs.Bits.{has_bit}
 
 -- a field that is never present
 abbrev pub no_field : Field
-no_field = record { flags = []; parts = λ c. plain }
+no_field = record { flags = []; parts = λ c. plain_field }
 
 -- field f of the table
 abbrev pub table_field : ℕ → Field

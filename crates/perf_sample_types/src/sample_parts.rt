@@ -23,7 +23,7 @@ use perf_words::{BranchEntry, DataSource, ReadFormat, Txn};
 use std::alloc::Global;
 
 impl SampleField for u64 {
-    ghost parts = { λ _. sample.plain };
+    ghost parts = { λ _. sample.plain_field };
 
     ghost value = { sample.number_is };
 
@@ -43,7 +43,7 @@ impl<'p, I: Input<'p>> ReadField<'p, I> for u64 {
 }
 
 impl SampleField for DataSource {
-    ghost parts = { λ _. sample.plain };
+    ghost parts = { λ _. sample.plain_field };
 
     ghost value = { sample.number_is };
 
@@ -63,7 +63,7 @@ impl<'p, I: Input<'p>> ReadField<'p, I> for DataSource {
 }
 
 impl SampleField for Txn {
-    ghost parts = { λ _. sample.plain };
+    ghost parts = { λ _. sample.plain_field };
 
     ghost value = { parts.transaction_value };
 

@@ -6,7 +6,7 @@ ghost use Rattle.perf_base.specs.Configuration.{configured_by};
 ghost use Rattle.perf_base.specs.Order.{little};
 ghost use Rattle.perf_base.specs.Took.{took, took_by_places};
 ghost use Rattle.perf_base.specs.declared.sys.perf_event_attr.{perf_event_attr};
-ghost use Rattle.perf_parser.specs.Prelude.{buffer_of, config_of, configuration_of, reads_of};
+ghost use Rattle.perf_parser.specs.Prelude.{parser_buffer, parser_config, configuration_of, parser_reads};
 
 use perf_event_data::endian::Little;
 use perf_event_data::parse::{ParseBuf, ParseConfig, ParseResult, Parser};
@@ -20,8 +20,8 @@ pub fn open_recording<'p, B: ParseBuf<'p> + Drop>(
 ) -> ParseResult<Parser<B, Little>>
     ensures { IsTrue (B.source input).told → IfOk result (λ parser. (attr : perf_event_attr)
         × (took_by_places little attribute (B.source input).left 0
-        ≡ took attr (B.source (buffer_of parser)).left (reads_of parser))
-        × (configuration_of (config_of parser) ≡ configured_by attr)) }
+        ≡ took attr (B.source (parser_buffer parser)).left (parser_reads parser))
+        × (configuration_of (parser_config parser) ≡ configured_by attr)) }
 {
     Parser::new(alloc, input, ParseConfig::<Little>::default()).after_attribute()
 }

@@ -118,7 +118,7 @@ fn push_words(
     alloc: Global,
     found: &FrameLine<'_, '_>,
 ) -> Result<bool, AllocError>
-    ensures { IfOk result (λ read. files.Prints (of_frame.frame_words found.now) read
+    ensures { IfOk result (λ read. files.PrintsWords (of_frame.frame_words found.now) read
         (string_bytes text.old) (string_bytes text.new)) }
 {
     match &found.frame {
@@ -141,7 +141,7 @@ fn push_whole(
     frame: &Frame<'_, '_>,
     config: Option<&ParseConfig<Dynamic>>,
 ) -> Result<bool, AllocError>
-    ensures { IfOk result (λ read. files.Prints
+    ensures { IfOk result (λ read. files.PrintsWords
         (files.words_under event (option_map (λ c. of_frame.read_by c.now) config.entry)
         frame.now.header (chunk_bytes frame.now.rest)) read
         (string_bytes text.old) (string_bytes text.new)) }
@@ -159,7 +159,7 @@ fn push_under(
     frame: &Frame<'_, '_>,
     config: &ParseConfig<Dynamic>,
 ) -> Result<bool, AllocError>
-    ensures { IfOk result (λ read. files.Prints
+    ensures { IfOk result (λ read. files.PrintsWords
         (files.words_of_record (answer_after (of_frame.read_by config.now).0
         (of_frame.read_by config.now).1 frame.now.header (chunk_bytes frame.now.rest))) read
         (string_bytes text.old) (string_bytes text.new)) }
@@ -176,7 +176,7 @@ fn push_under(
 // Appends why a record is refused. Memory that ran out is no refusal.
 fn push_error(text: &mut String, kind: ErrorKind) -> Result<bool, AllocError>
     ensures { IfOk result (λ read. (kind ≢ OutOfMemory)
-        × files.Prints (Err (lines.kind_name kind)) read
+        × files.PrintsWords (Err (lines.kind_name kind)) read
         (string_bytes text.old) (string_bytes text.new)) }
 {
     match kind {
@@ -191,7 +191,7 @@ fn push_error(text: &mut String, kind: ErrorKind) -> Result<bool, AllocError>
 
 // Appends the bytes of a frame, or why its event is not known.
 fn push_without(text: &mut String, event: FrameEvent, bytes: &[u8]) -> Result<bool, AllocError>
-    ensures { IfOk result (λ read. files.Prints (files.words_of_bytes event bytes.now) read
+    ensures { IfOk result (λ read. files.PrintsWords (files.words_of_bytes event bytes.now) read
         (string_bytes text.old) (string_bytes text.new)) }
 {
     match event {
@@ -203,7 +203,7 @@ fn push_without(text: &mut String, event: FrameEvent, bytes: &[u8]) -> Result<bo
 
 // Appends bytes, as those of a record of unknown type.
 fn push_bytes(text: &mut String, bytes: &[u8]) -> Result<bool, AllocError>
-    ensures { IfOk result (λ read. files.Prints (Ok (lines.unknown_words bytes.now)) read
+    ensures { IfOk result (λ read. files.PrintsWords (Ok (lines.unknown_words bytes.now)) read
         (string_bytes text.old) (string_bytes text.new)) }
 {
     push_hex(text, " Unknown data=", bytes)?;
@@ -212,7 +212,7 @@ fn push_bytes(text: &mut String, bytes: &[u8]) -> Result<bool, AllocError>
 
 // Appends why a frame is refused.
 fn push_refused(text: &mut String, why: &str) -> Result<bool, AllocError>
-    ensures { IfOk result (λ read. files.Prints (Err why.now) read
+    ensures { IfOk result (λ read. files.PrintsWords (Err why.now) read
         (string_bytes text.old) (string_bytes text.new)) }
 {
     text.push_str(" refused ")?;

@@ -8,7 +8,7 @@ use Rattle.perf_base.specs.declared.error.ErrorKind.TheVariants.{External}
 use Rattle.perf_reader.specs.Reading.{of_layout}
 use Rattle.perf_reader.proofs.Calls.{keeps_none}
 use Rattle.perf_records.proofs.LayoutResults.{took_result}
-use Rattle.perf_parser.specs.ReaderState.{state_of}
+use Rattle.perf_parser.specs.ReaderState.{parser_state}
 use Rattle.perf_lines.specs.Text.{stream_after_attribute, without_frames}
 use Rattle.perf_lines.proofs.Endings.{made_refused, made_after, read_attribute, refused_attribute, framed_as}
 use Rattle.perf_lines.proofs.run.push_run_with_attr.Goals as goal
@@ -29,8 +29,8 @@ returns-in-Err g c = λ told.
 pub returns-in-Ok : goal.returns-in-Ok
 returns-in-Ok g c = λ told.
     let after = c.in-Ok.after in
-    let start = state_of g.B.ParseBuf.source g.E.Endian.order c.args.parser in
-    let now = state_of g.B.ParseBuf.source g.E.Endian.order after in
+    let start = parser_state g.B.ParseBuf.source g.E.Endian.order c.args.parser in
+    let now = parser_state g.B.ParseBuf.source g.E.Endian.order after in
     let kept = c.in-Ok.ensures.keeps start (keeps_none start) in
     let read = c.in-Ok.ensures.read told in
     let framed = read_attribute start.order start.source.left now.source.left read.0

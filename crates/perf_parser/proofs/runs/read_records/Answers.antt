@@ -1,5 +1,5 @@
 use Rattle.std.proofs.Common.{sym, subst, refl, true}
-use Rattle.perf_parser.specs.ReaderState.{state_of}
+use Rattle.perf_parser.specs.ReaderState.{parser_state}
 use Rattle.perf_parser.specs.Steps.{ListsFirst}
 use Rattle.perf_parser.proofs.Lists.{lists_none, listed_first}
 use Rattle.perf_parser.proofs.RunSteps.{steps_all}
@@ -7,7 +7,7 @@ use Rattle.perf_parser.proofs.runs.read_records.Goals as goal
 
 pub run_steps-run-requires : goal.run_steps-run-requires
 run_steps-run-requires g c =
-    λ lifetimes. ((refl, tt), subst (ListsFirst (state_of g.B.ParseBuf.source g.E.Endian.order c.args.parser.now) 0 true) (sym c.new-frames.ensures.items) (lists_none _))
+    λ lifetimes. ((refl, tt), subst (ListsFirst (parser_state g.B.ParseBuf.source g.E.Endian.order c.args.parser.now) 0 true) (sym c.new-frames.ensures.items) (lists_none _))
 
 pub returns-clause-answers : goal.returns-clause-answers
 returns-clause-answers g c = λ told. let run = c.run_steps-run.ensures.run in listed_first told (run.there told) run.so_far

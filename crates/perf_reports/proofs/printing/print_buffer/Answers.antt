@@ -1,7 +1,7 @@
 use Rattle.std.proofs.Common.{◌≡◌, List, ℕ, ap, sym, subst, refl, ◌∙◌, drop}
 use Rattle.std.specs.Prelude.{IsTrue}
 use Rattle.perf_base.specs.Order.{little}
-use Rattle.perf_parser.specs.ReaderState.{buffer_of, state_of}
+use Rattle.perf_parser.specs.ReaderState.{parser_buffer, parser_state}
 use Rattle.perf_reader.specs.ReaderState.{ReaderState}
 use Rattle.perf_reader.proofs.Calls.{keeps_none}
 use Rattle.perf_reports.specs.Counting.{attribute_in}
@@ -13,11 +13,11 @@ pub returns-clause-all : goal.returns-clause-all
 returns-clause-all g c = λ told.
     let source = g.B.ParseBuf.source in
     let p = c.new-parser in
-    let here : IsTrue (source (buffer_of p.result)).told = subst (λ (b : g.row.B.Denot). IsTrue (source b).told) (sym p.ensures.buf) told in
+    let here : IsTrue (source (parser_buffer p.result)).told = subst (λ (b : g.row.B.Denot). IsTrue (source b).told) (sym p.ensures.buf) told in
     let bytes : List ℕ = (source c.args.buf).left in
-    let same : (source (buffer_of p.result)).left ≡ bytes = ap (λ (b : g.row.B.Denot). (source b).left) p.ensures.buf in
-    let start : ReaderState = state_of source (λ o. little) p.result in
-    let now : ReaderState = state_of source (λ o. little) c.in-Ok.parser in
+    let same : (source (parser_buffer p.result)).left ≡ bytes = ap (λ (b : g.row.B.Denot). (source b).left) p.ensures.buf in
+    let start : ReaderState = parser_state source (λ o. little) p.result in
+    let now : ReaderState = parser_state source (λ o. little) c.in-Ok.parser in
     let a = c.in-Ok.ensures.read here in
     let stands : StandsAfter bytes a.0 now = record {
       attribute = ap (λ xs. attribute_in little xs) (sym same) ∙ attribute_read little start.source.left now.source.left start.reads now.reads a.0 a.1;
@@ -38,11 +38,11 @@ pub returns-clause-part : goal.returns-clause-part
 returns-clause-part g c = λ told.
     let source = g.B.ParseBuf.source in
     let p = c.new-parser in
-    let here : IsTrue (source (buffer_of p.result)).told = subst (λ (b : g.row.B.Denot). IsTrue (source b).told) (sym p.ensures.buf) told in
+    let here : IsTrue (source (parser_buffer p.result)).told = subst (λ (b : g.row.B.Denot). IsTrue (source b).told) (sym p.ensures.buf) told in
     let bytes : List ℕ = (source c.args.buf).left in
-    let same : (source (buffer_of p.result)).left ≡ bytes = ap (λ (b : g.row.B.Denot). (source b).left) p.ensures.buf in
-    let start : ReaderState = state_of source (λ o. little) p.result in
-    let now : ReaderState = state_of source (λ o. little) c.in-Ok.parser in
+    let same : (source (parser_buffer p.result)).left ≡ bytes = ap (λ (b : g.row.B.Denot). (source b).left) p.ensures.buf in
+    let start : ReaderState = parser_state source (λ o. little) p.result in
+    let now : ReaderState = parser_state source (λ o. little) c.in-Ok.parser in
     let a = c.in-Ok.ensures.read here in
     let stands : StandsAfter bytes a.0 now = record {
       attribute = ap (λ xs. attribute_in little xs) (sym same) ∙ attribute_read little start.source.left now.source.left start.reads now.reads a.0 a.1;

@@ -2,7 +2,7 @@ use Rattle.std.proofs.Common.{◌≡◌, ℕ, ◌≤◌, List, length, take, ◌
 use Rattle.std.proofs.lemmas.List.{length-take}
 use Rattle.std.specs.Prelude.{Option, IsTrue}
 use Rattle.perf_parser.specs.FrameRuns.{EndsFrames}
-use Rattle.perf_parser.specs.ReaderState.{buffer_of, state_of}
+use Rattle.perf_parser.specs.ReaderState.{parser_buffer, parser_state}
 use Rattle.perf_parser.specs.declared.runs.RunEnd.{RunEnd}
 use Rattle.perf_reader.specs.ReaderState.{ReaderState}
 use Rattle.perf_reports.specs.FramePrinting.{PrintsFirst, answers_left}
@@ -18,9 +18,9 @@ take_fits k xs all = omega (arith, all, length-take k xs)
 pub returns-in-Ok-clause-sent : goal.returns-in-Ok-clause-sent
 returns-in-Ok-clause-sent g c = λ told.
     let out = g.W.Write.contents in let err = g.E.Write.contents in
-    let old : ReaderState = state_of g.B.ParseBuf.source g.O.Endian.order c.args.parser.now in
+    let old : ReaderState = parser_state g.B.ParseBuf.source g.O.Endian.order c.args.parser.now in
     let run = c.each_frame-run in
-    let left : List ℕ = (g.B.ParseBuf.source (buffer_of run.new.parser)).left in
+    let left : List ℕ = (g.B.ParseBuf.source (parser_buffer run.new.parser)).left in
     let p = went_on_prints out err old run.result.count run.result.end c.in-Some.end c.args.printer.now run.new.handler c.in-Some.is (run.ensures.handed told) in
     let same = c.send.ensures.same in (
       run.result.count,
@@ -34,7 +34,7 @@ returns-in-Ok-clause-sent g c = λ told.
 pub returns-in-Ok-clause-part : goal.returns-in-Ok-clause-part
 returns-in-Ok-clause-part g c = λ told.
     let out = g.W.Write.contents in let err = g.E.Write.contents in
-    let old : ReaderState = state_of g.B.ParseBuf.source g.O.Endian.order c.args.parser.now in
+    let old : ReaderState = parser_state g.B.ParseBuf.source g.O.Endian.order c.args.parser.now in
     let run = c.each_frame-run in
     let p = went_on_prints out err old run.result.count run.result.end c.in-Some.end c.args.printer.now run.new.handler c.in-Some.is (run.ensures.handed told) in
     run_part out err c.args.printer.now run.new.handler c.send.new.self (answers_left old) run.result.count BATCH run.ensures.count p c.send.ensures.part
@@ -42,7 +42,7 @@ returns-in-Ok-clause-part g c = λ told.
 pub returns-in-Err-clause-part : goal.returns-in-Err-clause-part
 returns-in-Err-clause-part g c = λ told.
     let out = g.W.Write.contents in let err = g.E.Write.contents in
-    let old : ReaderState = state_of g.B.ParseBuf.source g.O.Endian.order c.args.parser.now in
+    let old : ReaderState = parser_state g.B.ParseBuf.source g.O.Endian.order c.args.parser.now in
     let run = c.each_frame-run in
     let p = went_on_prints out err old run.result.count run.result.end c.in-Some.end c.args.printer.now run.new.handler c.in-Some.is (run.ensures.handed told) in
     run_part out err c.args.printer.now run.new.handler c.send.new.self (answers_left old) run.result.count BATCH run.ensures.count p c.send.ensures.part
@@ -50,7 +50,7 @@ returns-in-Err-clause-part g c = λ told.
 pub returns-in-None-clause-sent : goal.returns-in-None-clause-sent
 returns-in-None-clause-sent g c = λ told.
     let out = g.W.Write.contents in let err = g.E.Write.contents in
-    let old : ReaderState = state_of g.B.ParseBuf.source g.O.Endian.order c.args.parser.now in
+    let old : ReaderState = parser_state g.B.ParseBuf.source g.O.Endian.order c.args.parser.now in
     let run = c.each_frame-run in
     let s = stopped_prints out err old run.result.count run.result.end c.args.printer.now run.new.handler c.in-None.is (run.ensures.handed told) in
     ok_of_none c.end.result s.why _ (c.end.ensures.stopped s.why s.kept).0
@@ -58,7 +58,7 @@ returns-in-None-clause-sent g c = λ told.
 pub returns-in-None-clause-part : goal.returns-in-None-clause-part
 returns-in-None-clause-part g c = λ told.
     let out = g.W.Write.contents in let err = g.E.Write.contents in
-    let old : ReaderState = state_of g.B.ParseBuf.source g.O.Endian.order c.args.parser.now in
+    let old : ReaderState = parser_state g.B.ParseBuf.source g.O.Endian.order c.args.parser.now in
     let run = c.each_frame-run in
     let s = stopped_prints out err old run.result.count run.result.end c.args.printer.now run.new.handler c.in-None.is (run.ensures.handed told) in
     run_stopped_part out err c.args.printer.now run.new.handler c.end.new.self (answers_left old) run.result.count BATCH run.ensures.count s (c.end.ensures.stopped s.why s.kept).1
@@ -66,7 +66,7 @@ returns-in-None-clause-part g c = λ told.
 pub returns-in-None-clause-refused : goal.returns-in-None-clause-refused
 returns-in-None-clause-refused g c = λ told.
     let out = g.W.Write.contents in let err = g.E.Write.contents in
-    let old : ReaderState = state_of g.B.ParseBuf.source g.O.Endian.order c.args.parser.now in
+    let old : ReaderState = parser_state g.B.ParseBuf.source g.O.Endian.order c.args.parser.now in
     let run = c.each_frame-run in
     let was = c.args.printer.now in
     let handed = run.ensures.handed told in

@@ -1,6 +1,6 @@
 use Rattle.std.proofs.Common.{◌≡◌, ◌+◌, Bool, true, false, ap, refl, subst, ◌∙◌, if◌then◌else◌}
 use Rattle.perf_base.specs.Configured.{configuration_of, endian_of}
-use Rattle.perf_parser.specs.ReaderState.{state_of}
+use Rattle.perf_parser.specs.ReaderState.{parser_state}
 use Rattle.perf_parser.specs.declared.runs.RunEnd.{RunEnd}
 use Rattle.perf_parser.specs.declared.runs.RunEnd.TheVariants as end
 use Rattle.perf_reader.specs.ReaderState.{ReaderState}
@@ -20,15 +20,15 @@ pub loop-init : goal.loop-init
 loop-init g c = record {
   config = refl;
   told = λ told. told;
-  printed = λ told. (0, has_none g.W.Write.contents g.E.Write.contents c.args.printer.now (state_of g.B.ParseBuf.source g.O.Endian.order c.args.parser.now));
+  printed = λ told. (0, has_none g.W.Write.contents g.E.Write.contents c.args.printer.now (parser_state g.B.ParseBuf.source g.O.Endian.order c.args.parser.now));
 }
 
 pub returns-in-Err-Frame-clause-part : goal.returns-in-Err-Frame-clause-part
 returns-in-Err-Frame-clause-part g c = λ told.
     let out = g.W.Write.contents in let err = g.E.Write.contents in
     let i = c.loop.invariant in
-    let old : ReaderState = state_of g.B.ParseBuf.source g.O.Endian.order c.args.parser.now in
-    let mid : ReaderState = state_of g.B.ParseBuf.source g.O.Endian.order c.loop.parser in
+    let old : ReaderState = parser_state g.B.ParseBuf.source g.O.Endian.order c.args.parser.now in
+    let mid : ReaderState = parser_state g.B.ParseBuf.source g.O.Endian.order c.loop.parser in
     let has = i.printed told in
     part_more out err c.args.printer.now c.loop.printer c.print_frames.new.printer old mid has.0 BATCH
     (ap (λ k. configuration_of k) i.config) (ap (λ k. g.O.Endian.order (endian_of k)) i.config) has.1 (c.in-Err-Frame.ensures.part (i.told told))
@@ -39,8 +39,8 @@ returns-in-Err g c = record {
   part = λ told.
       let out = g.W.Write.contents in let err = g.E.Write.contents in
       let i = c.loop.invariant in
-      let old : ReaderState = state_of g.B.ParseBuf.source g.O.Endian.order c.args.parser.now in
-      let mid : ReaderState = state_of g.B.ParseBuf.source g.O.Endian.order c.loop.parser in
+      let old : ReaderState = parser_state g.B.ParseBuf.source g.O.Endian.order c.args.parser.now in
+      let mid : ReaderState = parser_state g.B.ParseBuf.source g.O.Endian.order c.loop.parser in
       let has = i.printed told in
       part_more out err c.args.printer.now c.loop.printer c.print_frames.new.printer old mid has.0 BATCH
       (ap (λ k. configuration_of k) i.config) (ap (λ k. g.O.Endian.order (endian_of k)) i.config) has.1 (c.in-Err.ensures.part (i.told told));
@@ -50,8 +50,8 @@ pub returns-in_err-goes_on-clause-part : goal.returns-in_err-goes_on-clause-part
 returns-in_err-goes_on-clause-part g c = λ told.
     let out = g.W.Write.contents in let err = g.E.Write.contents in
     let i = c.loop.invariant in
-    let old : ReaderState = state_of g.B.ParseBuf.source g.O.Endian.order c.args.parser.now in
-    let mid : ReaderState = state_of g.B.ParseBuf.source g.O.Endian.order c.loop.parser in
+    let old : ReaderState = parser_state g.B.ParseBuf.source g.O.Endian.order c.args.parser.now in
+    let mid : ReaderState = parser_state g.B.ParseBuf.source g.O.Endian.order c.loop.parser in
     let has = i.printed told in
     let run = c.in-Ok.ensures.sent (i.told told) in
     part_so_far out err c.args.printer.now c.print_frames.new.printer old (has.0 + run.0)
@@ -62,8 +62,8 @@ pub returns-then-not-branch-clause-all : goal.returns-then-not-branch-clause-all
 returns-then-not-branch-clause-all g c = λ told.
     let out = g.W.Write.contents in let err = g.E.Write.contents in
     let i = c.loop.invariant in
-    let old : ReaderState = state_of g.B.ParseBuf.source g.O.Endian.order c.args.parser.now in
-    let mid : ReaderState = state_of g.B.ParseBuf.source g.O.Endian.order c.loop.parser in
+    let old : ReaderState = parser_state g.B.ParseBuf.source g.O.Endian.order c.args.parser.now in
+    let mid : ReaderState = parser_state g.B.ParseBuf.source g.O.Endian.order c.loop.parser in
     let has = i.printed told in
     let left = (g.B.ParseBuf.source c.print_frames.new.parser.reader.input.buf).left in
     let is : c.in-Ok.end ≡ end.Done = is_done c.in_ok-goes_on.field-0 c.in-Ok.end c.in_ok-goes_on.ensures.more c.if-not-branch.true in
@@ -75,8 +75,8 @@ pub returns-then-not-branch-clause-part : goal.returns-then-not-branch-clause-pa
 returns-then-not-branch-clause-part g c = λ told.
     let out = g.W.Write.contents in let err = g.E.Write.contents in
     let i = c.loop.invariant in
-    let old : ReaderState = state_of g.B.ParseBuf.source g.O.Endian.order c.args.parser.now in
-    let mid : ReaderState = state_of g.B.ParseBuf.source g.O.Endian.order c.loop.parser in
+    let old : ReaderState = parser_state g.B.ParseBuf.source g.O.Endian.order c.args.parser.now in
+    let mid : ReaderState = parser_state g.B.ParseBuf.source g.O.Endian.order c.loop.parser in
     let has = i.printed told in
     let run = c.in-Ok.ensures.sent (i.told told) in
     part_so_far out err c.args.printer.now c.print_frames.new.printer old (has.0 + run.0)
@@ -90,8 +90,8 @@ loop-preserved g c = record {
   printed = λ told.
       let out = g.W.Write.contents in let err = g.E.Write.contents in
       let i = c.loop.invariant in
-      let old : ReaderState = state_of g.B.ParseBuf.source g.O.Endian.order c.args.parser.now in
-      let mid : ReaderState = state_of g.B.ParseBuf.source g.O.Endian.order c.loop.parser in
+      let old : ReaderState = parser_state g.B.ParseBuf.source g.O.Endian.order c.args.parser.now in
+      let mid : ReaderState = parser_state g.B.ParseBuf.source g.O.Endian.order c.loop.parser in
       let has = i.printed told in
       let left = (g.B.ParseBuf.source c.print_frames.new.parser.reader.input.buf).left in
       let is : c.in-Ok.end ≡ end.Limit = is_limit c.in_ok-goes_on.field-0 c.in-Ok.end c.in_ok-goes_on.ensures.more c.if-not-branch.false in
@@ -105,4 +105,4 @@ loop-preserved g c = record {
 pub returns-clause-part : goal.returns-clause-part
 returns-clause-part g c = λ told.
     let has = c.loop.invariant.printed told in
-    part_so_far g.W.Write.contents g.E.Write.contents c.args.printer.now c.loop.printer (state_of g.B.ParseBuf.source g.O.Endian.order c.args.parser.now) has.0 has.1.prints
+    part_so_far g.W.Write.contents g.E.Write.contents c.args.printer.now c.loop.printer (parser_state g.B.ParseBuf.source g.O.Endian.order c.args.parser.now) has.0 has.1.prints

@@ -1,6 +1,6 @@
 use Rattle.std.proofs.Common.{List, ℕ, sym, subst}
 use Rattle.std.specs.Prelude.{Option}
-use Rattle.perf_parser.specs.ReaderState.{buffer_of, state_of}
+use Rattle.perf_parser.specs.ReaderState.{parser_buffer, parser_state}
 use Rattle.perf_parser.specs.declared.runs.RunEnd.{RunEnd}
 use Rattle.perf_reader.specs.ReaderState.{ReaderState}
 use Rattle.perf_reports.specs.Counting.{CountsRun, EndsBy}
@@ -12,8 +12,8 @@ use Rattle.perf_reports.proofs.streams.count_records.Goals.{in-Some, in-None}
 
 pub returns-clause-counts : goal.returns-clause-counts
 returns-clause-counts g c = λ told.
-    let old : ReaderState = state_of g.B.ParseBuf.source g.E.Endian.order c.args.parser.now in
-    let left : List ℕ = (g.B.ParseBuf.source (buffer_of c.each_frame-run.new.parser)).left in
+    let old : ReaderState = parser_state g.B.ParseBuf.source g.E.Endian.order c.args.parser.now in
+    let left : List ℕ = (g.B.ParseBuf.source (parser_buffer c.each_frame-run.new.parser)).left in
     let run = c.each_frame-run in
     let now = run.new.handler in
     let e = c.match-run.end in
@@ -26,7 +26,7 @@ returns-clause-counts g c = λ told.
 
 pub returns-clause-buffer : goal.returns-clause-buffer
 returns-clause-buffer g c = λ told.
-    let old : ReaderState = state_of g.B.ParseBuf.source g.E.Endian.order c.args.parser.now in
+    let old : ReaderState = parser_state g.B.ParseBuf.source g.E.Endian.order c.args.parser.now in
     let run = c.each_frame-run in
     let now = run.new.handler in
     let e = c.match-run.end in
@@ -38,7 +38,7 @@ returns-clause-buffer g c = λ told.
 
 pub returns-clause-fault : goal.returns-clause-fault
 returns-clause-fault g c = λ told.
-    let old : ReaderState = state_of g.B.ParseBuf.source g.E.Endian.order c.args.parser.now in
+    let old : ReaderState = parser_state g.B.ParseBuf.source g.E.Endian.order c.args.parser.now in
     let run = c.each_frame-run in
     let now = run.new.handler in
     let e = c.match-run.end in

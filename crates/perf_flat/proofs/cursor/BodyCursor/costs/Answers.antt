@@ -1,7 +1,7 @@
 use Rattle.std.proofs.Common.{subst, sym, ap, ◌∙◌, [], ◌∷◌}
 use Rattle.std.specs.Prelude.{option_map}
 use Rattle.perf_base.specs.Table.{present_if, slot}
-use Rattle.perf_sample_types.specs.Sample.{plain, number_is, registers, has_one}
+use Rattle.perf_sample_types.specs.Sample.{plain_field, number_is, registers, has_one}
 use Rattle.perf_sample_types.proofs.FlaggedFields.{flag_asked}
 use Rattle.perf_flat.specs.CursorReads.{ReadsParts, ReadsFor}
 use Rattle.perf_flat.specs.SampleReads.{IsRegisters}
@@ -12,7 +12,7 @@ pub returns : goal.returns
 returns g c = λ settings asked mask.
     let o = g.E.Endian.order c.args.order.now in
     let weighed = c.is_weighed-weighed.ensures ∙ ap (λ t. has_one t (14 ∷ 24 ∷ [])) asked in
-    let one = subst (λ t. ReadsParts o (slot (present_if t plain)) (option_map number_is c.number_if.result) c.args.self.now c.number_if.new.self) weighed c.number_if.ensures in
+    let one = subst (λ t. ReadsParts o (slot (present_if t plain_field)) (option_map number_is c.number_if.result) c.args.self.now c.number_if.new.self) weighed c.number_if.ensures in
     let two = c.flagged.ensures in
     let three = c.flagged-2.ensures in
     let user = sym (flag_asked 18 asked ∙ sym (c.contains-interrupted.ensures tt)) in

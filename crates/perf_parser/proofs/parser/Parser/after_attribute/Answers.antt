@@ -7,19 +7,19 @@ use Rattle.perf_base.specs.Took.{took}
 use Rattle.perf_base.specs.declared.config.ParseConfig.{ParseConfig}
 use Rattle.perf_reader.proofs.Calls.{keeps_none}
 use Rattle.perf_records.proofs.LayoutResults.{quit_result}
-use Rattle.perf_parser.specs.ReaderState.{buffer_of, reads_of, state_of}
+use Rattle.perf_parser.specs.ReaderState.{parser_buffer, parser_reads, parser_state}
 use Rattle.perf_parser.proofs.Attributes.{keeps_moved, not_of_layout, no_fault, is_external_fault}
 use Rattle.perf_parser.proofs.parser.Parser.after_attribute.Goals as goal
 
 pub returns-in-Err-clause-refused : goal.returns-in-Err-clause-refused
 returns-in-Err-clause-refused g c = λ told known.
-    let start = state_of g.B.ParseBuf.source g.E.Endian.order c.args.self in
-    let mid = state_of g.B.ParseBuf.source g.E.Endian.order c.parse.new.self in
+    let start = parser_state g.B.ParseBuf.source g.E.Endian.order c.args.self in
+    let mid = parser_state g.B.ParseBuf.source g.E.Endian.order c.parse.new.self in
     (quit_result start.order attribute start.source.left mid.source.left start.reads mid.reads (kind_of c.in-Err.error) ((c.in-Err.ensures.call.answer told).0 known)).0
 
 pub returns-in-Err-clause-fault : goal.returns-in-Err-clause-fault
 returns-in-Err-clause-fault g c = λ external.
-    let start = state_of g.B.ParseBuf.source g.E.Endian.order c.args.self in
+    let start = parser_state g.B.ParseBuf.source g.E.Endian.order c.args.self in
     let kept = c.in-Err.ensures.call.counted start (keeps_none start) in
     kept.fault (is_external_fault (kind_of c.in-Err.error) external)
 
@@ -44,13 +44,13 @@ returns-clause-read g c = λ told.
     let answer = c.in-Ok.ensures.call.answer told in
     let left = sym (ap (λ b. (source b).left) c.reconfigure.ensures.buf) in (
       c.in-Ok.attr,
-      answer.0 ∙ ap (λ l. took c.in-Ok.attr l (reads_of mid)) left ∙ ap (λ n. took c.in-Ok.attr (source (buffer_of c.reconfigure.result)).left n) (sym c.reconfigure.ensures.reads),
+      answer.0 ∙ ap (λ l. took c.in-Ok.attr l (parser_reads mid)) left ∙ ap (λ n. took c.in-Ok.attr (source (parser_buffer c.reconfigure.result)).left n) (sym c.reconfigure.ensures.reads),
       sym left ∙ answer.2,
       ap configuration_of c.reconfigure.ensures.config ∙ c.with_endian-config.ensures.same ∙ c.from.ensures.0,
     )
 
 pub returns-clause-keeps : goal.returns-clause-keeps
 returns-clause-keeps g c = λ start kept.
-    let mid = state_of g.B.ParseBuf.source g.E.Endian.order c.parse.new.self in
-    let after = state_of g.B.ParseBuf.source g.E.Endian.order c.reconfigure.result in
+    let mid = parser_state g.B.ParseBuf.source g.E.Endian.order c.parse.new.self in
+    let after = parser_state g.B.ParseBuf.source g.E.Endian.order c.reconfigure.result in
     keeps_moved start mid after (ap g.B.ParseBuf.source c.reconfigure.ensures.buf) c.reconfigure.ensures.reads (c.in-Ok.ensures.call.counted start kept)

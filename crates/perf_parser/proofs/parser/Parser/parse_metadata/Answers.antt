@@ -12,15 +12,15 @@ use Rattle.perf_records.specs.Metadata.{MetadataValue}
 use Rattle.perf_records.proofs.Headers.{header_read, header_unread, tells_frame, tells_no_header, no_header_within, frame_within, refuses_read, refuses_unread}
 use Rattle.perf_records.proofs.LayoutResults.{took_ran, quit_stopped}
 use Rattle.perf_parser.specs.Frames.{parsed_parts}
-use Rattle.perf_parser.specs.ReaderState.{state_of}
+use Rattle.perf_parser.specs.ReaderState.{parser_state}
 use Rattle.perf_parser.specs.declared.parser.Parser.{Parser}
 use Rattle.perf_parser.proofs.parser.Parser.parse_metadata.Goals as goal
 
 -- the header was refused
 pub returns-in-Err-clause-call : goal.returns-in-Err-clause-call
 returns-in-Err-clause-call g c =
-    let old : ReaderState = state_of g.B.ParseBuf.source g.E.Endian.order c.args.self.now in
-    let new : ReaderState = state_of g.B.ParseBuf.source g.E.Endian.order c.parse.new.self in
+    let old : ReaderState = parser_state g.B.ParseBuf.source g.E.Endian.order c.args.self.now in
+    let new : ReaderState = parser_state g.B.ParseBuf.source g.E.Endian.order c.parse.new.self in
     let kind : ErrorKind = kind_of c.in-Err.error in
     let read = c.in-Err.ensures.call in record {
       config = read.config;
@@ -43,9 +43,9 @@ returns-in-Err-clause-call g c =
 -- the header was read, and the rest too
 pub returns-in-Ok-parse_metadata_with_header-clause-call : goal.returns-in-Ok-parse_metadata_with_header-clause-call
 returns-in-Ok-parse_metadata_with_header-clause-call g c =
-    let old : ReaderState = state_of g.B.ParseBuf.source g.E.Endian.order c.args.self.now in
-    let mid : ReaderState = state_of g.B.ParseBuf.source g.E.Endian.order c.parse.new.self in
-    let new : ReaderState = state_of g.B.ParseBuf.source g.E.Endian.order c.parse_metadata_with_header.new.self in
+    let old : ReaderState = parser_state g.B.ParseBuf.source g.E.Endian.order c.args.self.now in
+    let mid : ReaderState = parser_state g.B.ParseBuf.source g.E.Endian.order c.parse.new.self in
+    let new : ReaderState = parser_state g.B.ParseBuf.source g.E.Endian.order c.parse_metadata_with_header.new.self in
     let header = c.in-Ok.header in
     let outcome : Result (Parser ParseBufCursor g.row.E.Denot × MetadataValue) ErrorKind = Ok c.in-Ok-parse_metadata_with_header.parts in
     let read = c.in-Ok.ensures.call in
@@ -69,9 +69,9 @@ returns-in-Ok-parse_metadata_with_header-clause-call g c =
 -- the header was read, and the rest refused
 pub returns-in-Err-parse_metadata_with_header-clause-call : goal.returns-in-Err-parse_metadata_with_header-clause-call
 returns-in-Err-parse_metadata_with_header-clause-call g c =
-    let old : ReaderState = state_of g.B.ParseBuf.source g.E.Endian.order c.args.self.now in
-    let mid : ReaderState = state_of g.B.ParseBuf.source g.E.Endian.order c.parse.new.self in
-    let new : ReaderState = state_of g.B.ParseBuf.source g.E.Endian.order c.parse_metadata_with_header.new.self in
+    let old : ReaderState = parser_state g.B.ParseBuf.source g.E.Endian.order c.args.self.now in
+    let mid : ReaderState = parser_state g.B.ParseBuf.source g.E.Endian.order c.parse.new.self in
+    let new : ReaderState = parser_state g.B.ParseBuf.source g.E.Endian.order c.parse_metadata_with_header.new.self in
     let header = c.in-Ok.header in
     let outcome : Result (Parser ParseBufCursor g.row.E.Denot × MetadataValue) ErrorKind = Err (kind_of c.in-Err-parse_metadata_with_header.error) in
     let read = c.in-Ok.ensures.call in
@@ -96,8 +96,8 @@ returns-in-Err-parse_metadata_with_header-clause-call g c =
 
 pub returns-in-Err-clause-small : goal.returns-in-Err-clause-small
 returns-in-Err-clause-small g c = λ told.
-    let old : ReaderState = state_of g.B.ParseBuf.source g.E.Endian.order c.args.self.now in
-    let new : ReaderState = state_of g.B.ParseBuf.source g.E.Endian.order c.parse.new.self in
+    let old : ReaderState = parser_state g.B.ParseBuf.source g.E.Endian.order c.args.self.now in
+    let new : ReaderState = parser_state g.B.ParseBuf.source g.E.Endian.order c.parse.new.self in
     let kind : ErrorKind = kind_of c.in-Err.error in
     let transition = c.in-Err.ensures.call.answer told in
     refuses_unread old.order old.source.left new.source.left kind
@@ -106,8 +106,8 @@ returns-in-Err-clause-small g c = λ told.
 
 pub returns-in-Ok-parse_metadata_with_header-clause-small : goal.returns-in-Ok-parse_metadata_with_header-clause-small
 returns-in-Ok-parse_metadata_with_header-clause-small g c = λ told.
-    let old : ReaderState = state_of g.B.ParseBuf.source g.E.Endian.order c.args.self.now in
-    let mid : ReaderState = state_of g.B.ParseBuf.source g.E.Endian.order c.parse.new.self in
+    let old : ReaderState = parser_state g.B.ParseBuf.source g.E.Endian.order c.args.self.now in
+    let mid : ReaderState = parser_state g.B.ParseBuf.source g.E.Endian.order c.parse.new.self in
     let header = c.in-Ok.header in
     let q = took_ran old.order header_parts old.source.left mid.source.left old.reads mid.reads header (c.in-Ok.ensures.call.answer told).0 in
     let h = header_read old.order old.source.left mid.source.left header q.0 in
@@ -115,8 +115,8 @@ returns-in-Ok-parse_metadata_with_header-clause-small g c = λ told.
 
 pub returns-in-Err-parse_metadata_with_header-clause-small : goal.returns-in-Err-parse_metadata_with_header-clause-small
 returns-in-Err-parse_metadata_with_header-clause-small g c = λ told.
-    let old : ReaderState = state_of g.B.ParseBuf.source g.E.Endian.order c.args.self.now in
-    let mid : ReaderState = state_of g.B.ParseBuf.source g.E.Endian.order c.parse.new.self in
+    let old : ReaderState = parser_state g.B.ParseBuf.source g.E.Endian.order c.args.self.now in
+    let mid : ReaderState = parser_state g.B.ParseBuf.source g.E.Endian.order c.parse.new.self in
     let header = c.in-Ok.header in
     let q = took_ran old.order header_parts old.source.left mid.source.left old.reads mid.reads header (c.in-Ok.ensures.call.answer told).0 in
     let h = header_read old.order old.source.left mid.source.left header q.0 in

@@ -5,7 +5,7 @@ use Rattle.perf_reader.specs.ReaderState.{ReaderState}
 use Rattle.perf_reader.proofs.Calls.{keeps_none}
 use Rattle.perf_parser.specs.Calls.{Call}
 use Rattle.perf_parser.specs.Frames.{SplitsParser}
-use Rattle.perf_parser.specs.ReaderState.{state_of}
+use Rattle.perf_parser.specs.ReaderState.{parser_state}
 use Rattle.perf_parser.proofs.ParserCalls.{answered, keeps_follows}
 use Rattle.perf_parser.proofs.Metadata.{split_parsed, split_unparsed, keeps_unparsed}
 use Rattle.perf_parser.proofs.Calls.{follows_more}
@@ -29,8 +29,8 @@ returns-in-Err-clause-call g c =
 pub returns-in-Ok-duplicate-clause-call : goal.returns-in-Ok-duplicate-clause-call
 returns-in-Ok-duplicate-clause-call g c =
     let read = c.in-Ok.ensures.call in
-    let old : ReaderState = state_of g.B.ParseBuf.source g.E.Endian.order c.args.self.now in
-    let new : ReaderState = state_of g.B.ParseBuf.source g.E.Endian.order (record { reader = c.split.new.reader }) in record {
+    let old : ReaderState = parser_state g.B.ParseBuf.source g.E.Endian.order c.args.self.now in
+    let new : ReaderState = parser_state g.B.ParseBuf.source g.E.Endian.order (record { reader = c.split.new.reader }) in record {
       config = read.config;
       whole = read.whole;
       told = read.told;
@@ -43,8 +43,8 @@ returns-in-Ok-duplicate-clause-call g c =
 pub returns-clause-call : goal.returns-clause-call
 returns-clause-call g c =
     let read = c.in-Ok.ensures.call in
-    let old : ReaderState = state_of g.B.ParseBuf.source g.E.Endian.order c.args.self.now in
-    let new : ReaderState = state_of g.B.ParseBuf.source g.E.Endian.order (record { reader = c.split.new.reader }) in
+    let old : ReaderState = parser_state g.B.ParseBuf.source g.E.Endian.order c.args.self.now in
+    let new : ReaderState = parser_state g.B.ParseBuf.source g.E.Endian.order (record { reader = c.split.new.reader }) in
     let why : kind_of c.in-Err-duplicate.error ≡ OutOfMemory = c.in-Err-duplicate.ensures.refused.0 in
     subst (λ k. Call g.B.ParseBuf.source g.E.Endian.order (SplitsParser c.args.header) c.args.self.now (Err k) (record { reader = c.split.new.reader })) (sym why) (record {
       config = read.config;

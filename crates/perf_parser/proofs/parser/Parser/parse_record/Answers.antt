@@ -14,14 +14,14 @@ use Rattle.perf_records.specs.Gives.{GivesExactly}
 use Rattle.perf_records.proofs.Headers.{header_read, header_unread, tells_no_header, no_header_within, frame_within, refuses_read, refuses_unread}
 use Rattle.perf_records.proofs.LayoutResults.{took_ran, quit_stopped}
 use Rattle.perf_records.proofs.BodyVisits.{visits_frame}
-use Rattle.perf_parser.specs.ReaderState.{state_of}
+use Rattle.perf_parser.specs.ReaderState.{parser_state}
 use Rattle.perf_parser.proofs.parser.Parser.parse_record.Goals as goal
 
 -- the header was refused
 pub returns-in-Err : goal.returns-in-Err
 returns-in-Err g c =
-    let old : ReaderState = state_of g.B.ParseBuf.source g.E.Endian.order c.args.self.now in
-    let new : ReaderState = state_of g.B.ParseBuf.source g.E.Endian.order c.parse.new.self in
+    let old : ReaderState = parser_state g.B.ParseBuf.source g.E.Endian.order c.args.self.now in
+    let new : ReaderState = parser_state g.B.ParseBuf.source g.E.Endian.order c.parse.new.self in
     let kind : ErrorKind = kind_of c.in-Err.error in
     let read = c.in-Err.ensures.call in record {
       small = λ told.
@@ -53,9 +53,9 @@ returns-in-Err g c =
 pub returns-in-Ok-parse_record_with_header : goal.returns-in-Ok-parse_record_with_header
 returns-in-Ok-parse_record_with_header g c =
     let gives = g.V.Visitor.gives in
-    let old : ReaderState = state_of g.B.ParseBuf.source g.E.Endian.order c.args.self.now in
-    let mid : ReaderState = state_of g.B.ParseBuf.source g.E.Endian.order c.parse.new.self in
-    let new : ReaderState = state_of g.B.ParseBuf.source g.E.Endian.order c.parse_record_with_header.new.self in
+    let old : ReaderState = parser_state g.B.ParseBuf.source g.E.Endian.order c.args.self.now in
+    let mid : ReaderState = parser_state g.B.ParseBuf.source g.E.Endian.order c.parse.new.self in
+    let new : ReaderState = parser_state g.B.ParseBuf.source g.E.Endian.order c.parse_record_with_header.new.self in
     let header = c.in-Ok.header in
     let outcome : Result g.row.V-Output.Denot ErrorKind = Ok c.in-Ok-parse_record_with_header.output in
     let read = c.in-Ok.ensures.call in
@@ -88,9 +88,9 @@ returns-in-Ok-parse_record_with_header g c =
 pub returns-in-Err-parse_record_with_header : goal.returns-in-Err-parse_record_with_header
 returns-in-Err-parse_record_with_header g c =
     let gives = g.V.Visitor.gives in
-    let old : ReaderState = state_of g.B.ParseBuf.source g.E.Endian.order c.args.self.now in
-    let mid : ReaderState = state_of g.B.ParseBuf.source g.E.Endian.order c.parse.new.self in
-    let new : ReaderState = state_of g.B.ParseBuf.source g.E.Endian.order c.parse_record_with_header.new.self in
+    let old : ReaderState = parser_state g.B.ParseBuf.source g.E.Endian.order c.args.self.now in
+    let mid : ReaderState = parser_state g.B.ParseBuf.source g.E.Endian.order c.parse.new.self in
+    let new : ReaderState = parser_state g.B.ParseBuf.source g.E.Endian.order c.parse_record_with_header.new.self in
     let header = c.in-Ok.header in
     let outcome : Result g.row.V-Output.Denot ErrorKind = Err (kind_of c.in-Err-parse_record_with_header.error) in
     let read = c.in-Ok.ensures.call in

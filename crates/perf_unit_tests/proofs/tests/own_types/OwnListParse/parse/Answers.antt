@@ -3,7 +3,7 @@ use Rattle.std.specs.Prelude.{Some}
 use Rattle.perf_base.specs.Errors.{kind_of}
 use Rattle.perf_base.specs.Refusals.{kind_if_refused, error_kinds}
 use Rattle.perf_parser.specs.Prelude.{CallInvariant}
-use Rattle.perf_parser.specs.ReaderState.{state_of}
+use Rattle.perf_parser.specs.ReaderState.{parser_state}
 use Rattle.perf_parser.proofs.InRow.{runs_kept, short_kept}
 use Rattle.perf_unit_tests.proofs.tests.own_types.OwnListParse.parse.Goals as goal
 
@@ -17,8 +17,8 @@ returns-in_err-numbers g c = record {
     counted = λ start k.
         let source = g.B.ParseBuf.source in
         let order = g.E.Endian.order in
-        let mid = state_of source order c.parse.new.self in
-        let new = state_of source order c.parse_repeated.new.self in
+        let mid = parser_state source order c.parse.new.self in
+        let new = parser_state source order c.parse_repeated.new.self in
         let error = c.in_err-numbers.field-0.0 in
         let short = short_kept _ start mid new c.in_ok-count.count (kind_of error) c.in_err-numbers.ensures.err (c.in_ok-count.ensures.call.counted start k) in
         let same : Some (kind_of error) ≡ kind_if_refused (error_kinds c.from_residual-in_err-numbers.result) = search rules in
@@ -37,8 +37,8 @@ returns g c = record {
     counted = λ start k.
         let source = g.B.ParseBuf.source in
         let order = g.E.Endian.order in
-        let mid = state_of source order c.parse.new.self in
-        let new = state_of source order c.parse_repeated.new.self in
+        let mid = parser_state source order c.parse.new.self in
+        let new = parser_state source order c.parse_repeated.new.self in
         runs_kept _ start mid new c.in_ok-numbers.numbers.items c.in_ok-numbers.ensures.ok.1 (c.in_ok-count.ensures.call.counted start k);
     follows = λ start f. c.parse_repeated.ensures.call.follows start (c.in_ok-count.ensures.call.follows start f);
   };
