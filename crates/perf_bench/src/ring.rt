@@ -6,7 +6,7 @@ ghost use Rattle.std.specs.Prelude.{⊤, ◌<◌};
 use crate::digest::Digest;
 use anyhow::Result;
 use perf_event_data::endian::Little;
-use perf_event_data::parse::{Parse, ParseBuf, ParseConfig, ParseResult, Parser};
+use perf_event_data::parse::{ParseBuf, ParseConfig, ParseResult, Parser};
 use perf_event_data::sys::perf_event_attr;
 use perf_event_data::{
     Comm, Mmap2, Partial, PartialVisitor, PieceBuf, Record, RecordMetadata, Sample,
@@ -77,7 +77,7 @@ pub fn read_ring(
 {
     let buffer = PieceBuf::new(bytes, most, false);
     let mut parser = Parser::new(alloc, buffer, ParseConfig::<Little>::default());
-    let attr = perf_event_attr::parse(&mut parser)?;
+    let attr = parser.parse::<perf_event_attr>()?;
     let mut parser = parser.reconfigure(ParseConfig::<Little>::from(attr));
     for _ in 0..u64::MAX {
         let answer = match taken {
@@ -120,9 +120,9 @@ fn read_body<'p, B: ParseBuf<'p>>(
     digest: &mut Digest,
 ) -> ParseResult<()> {
     match ty {
-        9 => digest.sample(&Sample::parse(body)?),
-        10 => digest.mmap2(&Mmap2::parse(body)?),
-        3 => digest.comm(&Comm::parse(body)?),
+        9 => digest.sample(&body.parse::<Sample>()?),
+        10 => digest.mmap2(&body.parse::<Mmap2>()?),
+        3 => digest.comm(&body.parse::<Comm>()?),
         _ => digest.bytes(body.parse_rest()?.as_slice()),
     }
     Ok(())
