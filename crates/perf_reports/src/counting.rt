@@ -4,6 +4,7 @@ ghost use Rattle.std.specs.Prelude.{◌≡◌, ◌≢◌, ℕ, Bool, List, [], O
 ghost use Rattle.perf_base.specs.Configuration.{Configuration};
 ghost use Rattle.perf_base.specs.Configured.{configuration_of, endian_of};
 ghost use Rattle.perf_base.specs.Errors.{kind_of};
+ghost use Rattle.perf_base.specs.Order.{Order};
 ghost use Rattle.perf_buffers.specs.Prelude.{chunk_bytes};
 ghost use Rattle.perf_records.specs.Answers.{answer_after};
 ghost use Rattle.perf_records.specs.RecordTypes.{type_of};
@@ -218,7 +219,10 @@ impl<'p> FrameCounter<'p> {
             return self.add(frame.header(), shown_sum(self.alloc, config, frame));
         }
         match frame.try_sample_into(self.alloc, config, &mut self.sample) {
-            Ok(_) => self.add(frame.header(), Ok(sample_sum(&self.sample))),
+            Ok(_) => {
+                let sum = sample_sum(&self.sample);
+                self.add(frame.header(), Ok(sum))
+            }
             Err(bad) => self.add(frame.header(), Err(bad.kind())),
         }
     }
