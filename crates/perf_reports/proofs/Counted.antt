@@ -1,6 +1,6 @@
 -- What a counter has counted of the frames that were handed to it.
-use Rattle.std.proofs.Common.{◌≡◌, ℕ, zero, suc, ◌+◌, ◌-◌, ◌*◌, ◌%◌, ◌^◌, ◌<◌, ◌≤◌, Bool, true, false, List, [], ◌∷◌, ◌++◌, length, take, drop, map, arith, refl, sym, ◌∙◌, ap, subst, nat_lt, inl, inr, Ok, Err, None, Some, length-drop}
-use Rattle.std.specs.Prelude.{IsTrue, IfOk, Option, Result, is_err, sum_by, count_by, count_ones, nat_le}
+use Rattle.std.proofs.Common.{◌≡◌, ◌≢◌, ℕ, zero, suc, ◌+◌, ◌-◌, ◌*◌, ◌%◌, ◌^◌, ◌<◌, ◌≤◌, Bool, true, false, List, [], ◌∷◌, ◌++◌, length, take, drop, map, arith, refl, sym, ◌∙◌, ap, subst, nat_lt, inl, inr, Ok, Err, None, Some, length-drop}
+use Rattle.std.specs.Prelude.{IsTrue, IfOk, IfErr, Option, Result, is_err, sum_by, count_by, count_ones, nat_le}
 use Rattle.std.proofs.lemmas.Bool.{cases_lt, lt-ltb, le-ltb, le-leb}
 use Rattle.std.proofs.lemmas.List.{take_all, length-append, length-take, length-take-le, append-nil, take-take, take-map, append_assoc}
 use Rattle.std.proofs.lemmas.List.Sums.{sum_by-append}
@@ -240,7 +240,7 @@ ended_by : (o : Order) (limit k : ℕ) (bytes left : List ℕ) (error : Option P
 ended_by o limit k bytes left None e below out by after = absurd out
 ended_by o limit k bytes left (Some x) e below out by after =
     subst (λ (y : RunEnd). EndsWith o limit bytes k y left) (sym by)
-    (below, no_layout x out, taken_within o (drop_frames o k bytes) left (after ∙ after_on o k bytes))
+    (below, no_layout x out.kind_is, taken_within o (drop_frames o k bytes) left (after ∙ after_on o k bytes))
 
 -- the end of a run over frames that were handed to a counter
 abbrev pub IsRunEnd : Option RunEnd → FrameCounter → RunEnd → Type 0
@@ -271,7 +271,7 @@ run_counts old limit count None e was now left none handed ends is =
 -- how a run ended in which memory ran out
 ended_out : (error : Option ParseError) (e : RunEnd) → RanOut error → EndsBy error e → end_refusal e ≡ Some OutOfMemory
 ended_out None e out by = absurd out
-ended_out (Some x) e out by = ap end_refusal by ∙ ap Some out
+ended_out (Some x) e out by = ap end_refusal by ∙ ap Some out.kind_is
 
 -- a fault of the buffer ends a run as such, and nothing else does
 pub run_keeps : (old : ReaderState) (n count : ℕ) (ended : Option RunEnd) (e : RunEnd) (was now : FrameCounter) (new : ReaderState) → was.counts ≡ counts_of [] →
@@ -349,6 +349,16 @@ pub refuses_seen : (h : perf_event_header) (c : Configuration) (o : Order) (byte
     RefusesSight e was go now → CountsSight was c o (whole h bytes borrowed) go now
 refuses_seen h c o bytes borrowed e was now true says p = p.1 h ∙ ap (λ a. plus was.counts (counts_of ((h, a) ∷ []))) (sym (says.0 p.0))
 refuses_seen h c o bytes borrowed e was now false says p = p
+
+-- a counter that has counted as much counts the same
+pub counts_alike : (c : Configuration) (o : Order) (seen : Sight) (was was' now : FrameCounter) (go : Bool) → was'.counts ≡ was.counts → CountsSight was' c o seen go now → CountsSight was c o seen go now
+counts_alike c o seen was was' now true same p = p ∙ ap (λ k. plus k (counted_sight c o seen)) same
+counts_alike c o seen was was' now false same p = (p.0 ∙ same, p.1)
+
+-- no fault is the kind of a refusal
+pub sums_inside : (says : Result RecordValue ErrorKind) (r : Result ℕ ErrorKind) → SumsAnswer says r → IfErr r (λ kind. kind ≢ External)
+sums_inside says (Ok sum) p = tt
+sums_inside says (Err kind) p = p.1
 
 -- ---- the attribute of a stream
 

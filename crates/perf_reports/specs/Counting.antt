@@ -6,7 +6,7 @@ use Rattle.perf_base.specs.Attribute.{attribute}
 use Rattle.perf_base.specs.Configuration.{Configuration, plain, configured_by}
 use Rattle.perf_base.specs.Layout.{layout}
 use Rattle.perf_base.specs.Order.{Order}
-use Rattle.perf_base.specs.Errors.{kind_of}
+use Rattle.perf_base.specs.Errors.{IsMadeOf}
 use Rattle.perf_base.specs.Refusals.{refusal_kind}
 use Rattle.perf_base.specs.declared.error.ParseError.{ParseError}
 use Rattle.perf_base.specs.declared.sys.perf_event_attr.{perf_event_attr}
@@ -132,10 +132,10 @@ IsRefused answer = IfOk answer (λ value. ⊥)
 abbrev pub counted_sight : Configuration → Order → Sight → Counts
 counted_sight c o sight = counts_of ((sight_header sight, sight_answer c o sight) ∷ [])
 
--- a run was ended because memory ran out
+-- a run was ended because memory ran out: by an error of that kind, without a message or a cause
 abbrev pub RanOut : Option ParseError → Type 0
 RanOut None = ⊥
-RanOut (Some e) = kind_of e ≡ OutOfMemory
+RanOut (Some e) = IsMadeOf e OutOfMemory None None
 
 -- how a run ends that an error ended: with that error
 abbrev pub EndsBy : Option ParseError → RunEnd → Type 0

@@ -1,11 +1,14 @@
 //! Counting the frames that a run hands out.
 
-ghost use Rattle.std.specs.Prelude.{◌≡◌, ◌≢◌, [], None, true};
+ghost use Rattle.std.specs.Prelude.{◌≡◌, ◌≢◌, ℕ, Bool, List, [], Ok, None, IfErr, true};
+ghost use Rattle.perf_base.specs.Configuration.{Configuration};
 ghost use Rattle.perf_base.specs.Configured.{configuration_of, endian_of};
 ghost use Rattle.perf_base.specs.Errors.{kind_of};
+ghost use Rattle.perf_base.specs.Order.{Order};
 ghost use Rattle.perf_buffers.specs.Prelude.{chunk_bytes};
 ghost use Rattle.perf_records.specs.Answers.{answer_after};
 ghost use Rattle.perf_records.specs.Records.{type_of};
+ghost use Rattle.perf_records.specs.Sights.{sight_of, whole};
 ghost use Rattle.perf_reports.specs.Counting.{counts_of, CountsSight, EndsBy, IsRefused, RefusesSight};
 ghost use Rattle.perf_reports.specs.Counting.{SumsAnswer, bad_kinds};
 
@@ -14,7 +17,7 @@ use crate::record_sums::SumVisitor;
 use crate::sums::sample_sum;
 use perf_event_data::endian::Endian;
 use perf_event_data::parse::{ErrorKind, ParseConfig, ParseError};
-use perf_event_data::sys::PERF_RECORD_SAMPLE;
+use perf_event_data::sys::{PERF_RECORD_SAMPLE, perf_event_header};
 use perf_event_data::{BadFrame, Frame, FrameHandler, RunEnd, Sample};
 use std::alloc::Global;
 
@@ -78,14 +81,15 @@ impl<'p> FrameCounter<'p> {
     }
 }
 
-// Whether a frame is a sample with fewer bytes than its fields take at least, so that it is
-// refused.
+// Whether the frame of a sample has fewer bytes than the sample's fields take at least, so that it
+// is refused.
 #[inline]
-fn is_short_sample<E: Endian>(config: &ParseConfig<E>, frame: &Frame<'_, '_>) -> bool
+fn is_short<E: Endian>(config: &ParseConfig<E>, frame: &Frame<'_, '_>) -> bool
+    requires { frame.now.header.type_ ≡ 9 }
     ensures { result ≡ true → IsRefused (answer_after (configuration_of config.now)
         (E.order (endian_of config.now)) frame.now.header (chunk_bytes frame.now.rest)) }
 {
-    frame.header().type_ == PERF_RECORD_SAMPLE && frame.rest().len() < Sample::least_len(config)
+    frame.rest().len() < Sample::least_len(config)
 }
 
 // What a call returned, with no more of a refusal than its kind.
@@ -99,30 +103,8 @@ fn with_kind(answer: Result<u64, BadFrame>) -> Result<u64, ErrorKind>
     }
 }
 
-// What the record of a frame adds to the checksum, or the kind with which it is refused: an error is
-// large, so none is made. A sample whose bytes live as long as the input is read into a place
-// that is kept for the next; nothing is kept of any other frame, so that no byte string is copied. A
-// record of a type that the kernel does not have adds nothing, and is not read.
-#[inline]
-fn frame_sum<'p, E: Endian>(
-    alloc: Global,
-    config: &ParseConfig<E>,
-    frame: &Frame<'_, 'p>,
-    place: &mut Sample<'p>,
-) -> Result<u64, ErrorKind>
-    ensures { SumsAnswer (answer_after (configuration_of config.now)
-        (E.order (endian_of config.now)) frame.now.header (chunk_bytes frame.now.rest)) result }
-{
-    if frame.header().type_ != PERF_RECORD_SAMPLE {
-        return other_sum(alloc, config, frame);
-    }
-    if frame.is_borrowed() {
-        return placed_sum(alloc, config, frame, place);
-    }
-    shown_sum(alloc, config, frame)
-}
-
-// What a record adds that is no sample.
+// What a record adds that is no sample. Nothing is kept of it, so no byte string is copied. A record of
+// a type that the kernel does not have adds nothing, and is not read.
 #[inline]
 fn other_sum<E: Endian>(
     alloc: Global,
@@ -139,12 +121,12 @@ fn other_sum<E: Endian>(
 }
 
 // What a sample adds that is read into a place.
-#[inline(never)]
-fn placed_sum<'p, E: Endian>(
+#[inline]
+fn placed_sum<'s, E: Endian>(
     alloc: Global,
     config: &ParseConfig<E>,
-    frame: &Frame<'_, 'p>,
-    place: &mut Sample<'p>,
+    frame: &Frame<'_, 's>,
+    place: &mut Sample<'s>,
 ) -> Result<u64, ErrorKind>
     requires { frame.now.header.type_ ≡ 9 }
     ensures { SumsAnswer (answer_after (configuration_of config.now)
@@ -202,24 +184,71 @@ fn unknown_sum<E: Endian>(
     }
 }
 
+impl<'p> FrameCounter<'p> {
+    // Counts a whole frame by what its record adds to the checksum, or by the kind with which it is
+    // refused: an error is large, so none is made.
+    #[inline(always)]
+    fn add(&mut self, header: perf_event_header, answer: Result<u64, ErrorKind>) -> bool
+        requires { IfErr answer (λ kind. kind ≢ ErrorKind.External) }
+        ensures { (c : Configuration) → (o : Order) → (bytes : List ℕ) → (borrowed : Bool) →
+            SumsAnswer (answer_after c o header bytes) answer →
+            CountsSight self.old c o (whole header bytes borrowed) result self.new }
+    {
+        match answer {
+            Ok(sum) => {
+                self.counts.add_record(header, sum);
+                true
+            }
+            Err(kind) => self.refuse(kind),
+        }
+    }
+
+    // Counts a sample. If its bytes live as long as the input, it is read into the place that is kept
+    // for the next.
+    #[inline(never)]
+    fn count_sample<E: Endian>(&mut self, config: &ParseConfig<E>, frame: &Frame<'_, 'p>) -> bool
+        requires { frame.now.header.type_ ≡ 9 }
+        ensures { CountsSight self.old (configuration_of config.now)
+            (E.order (endian_of config.now)) (sight_of (Ok frame.now)) result self.new }
+    {
+        if is_short(config, frame) {
+            self.counts.add_refused();
+            return true;
+        }
+        if !frame.is_borrowed() {
+            return self.add(frame.header(), shown_sum(self.alloc, config, frame));
+        }
+        match frame.try_sample_into(self.alloc, config, &mut self.sample) {
+            Ok(_) => {
+                let sum = sample_sum(&self.sample);
+                self.add(frame.header(), Ok(sum))
+            }
+            Err(bad) => self.add(frame.header(), Err(bad.kind())),
+        }
+    }
+
+    // Counts a frame of any other record.
+    #[inline(never)]
+    fn count_other<E: Endian>(&mut self, config: &ParseConfig<E>, frame: &Frame<'_, 'p>) -> bool
+        ensures { CountsSight self.old (configuration_of config.now)
+            (E.order (endian_of config.now)) (sight_of (Ok frame.now)) result self.new }
+    {
+        self.add(frame.header(), other_sum(self.alloc, config, frame))
+    }
+}
+
 impl<'p, E: Endian> FrameHandler<'p, E> for FrameCounter<'p> {
     ghost gets = { CountsSight };
 
-    #[inline]
+    // It is inlined into the loop of a run, which calls one function for a frame.
+    #[inline(always)]
     fn frame(&mut self, config: &ParseConfig<E>, frame: Result<Frame<'_, 'p>, BadFrame>) -> bool {
         match frame {
             Ok(frame) => {
-                if is_short_sample(config, &frame) {
-                    self.counts.add_refused();
-                    return true;
+                if frame.header().type_ == PERF_RECORD_SAMPLE {
+                    return self.count_sample(config, &frame);
                 }
-                match frame_sum(self.alloc, config, &frame, &mut self.sample) {
-                    Ok(sum) => {
-                        self.counts.add_record(frame.header(), sum);
-                        true
-                    }
-                    Err(kind) => self.refuse(kind),
-                }
+                self.count_other(config, &frame)
             }
             Err(_) => {
                 self.counts.add_refused();
