@@ -17,8 +17,8 @@ class Body:
         self.pairs, self.names, self.owner, self.others, self.text = [], [], "", [], ""
         # the functions of its file, the traits of its crate, and the module of its type
         self.known, self.traits, self.home = set(), set(), None
-        self.told, self.why, self.tries, self.number, self.is_declared = "", "", 0, 0, False
-        self.is_copied, self.is_in_macro = True, False
+        self.told, self.why, self.tries, self.took, self.number, self.is_declared = "", "", 0, 0, 0, False
+        self.is_copied, self.is_in_macro, self.is_kept = True, False, False
 
     def place(self, lines):
         """Finds the function around the edited line, and the type whose impl contains it."""
