@@ -1,6 +1,7 @@
 """Reads the edits of a crate: wrong bodies, and by which names the prover knows the functions that they change."""
 
 import re
+from functools import cache
 
 FUNCTION = re.compile(r"\bfn\s+(\w+)")
 TRAIT = re.compile(r"(?:pub(?:\(\w+\))? )?trait (\w+)")
@@ -200,15 +201,19 @@ def located(path, text, types, traits):
             yield body.functions()[0], body
 
 
+@cache
 def texts_of(folder):
+    """The files of a crate's source, and their texts when they were first read."""
     return {f"src/{it.relative_to(folder / 'src')}": it.read_text(encoding="utf-8") for it in folder.glob("src/**/*.rt")}
 
 
+@cache
 def types_of(folder):
     """The module of each type that stands in the source of a crate."""
     return {name: module_of(path) for path, text in texts_of(folder).items() for name in TYPE.findall(text)}
 
 
+@cache
 def traits_of(folder):
     return {name for text in texts_of(folder).values() for name in DECLARED.findall(text)}
 
