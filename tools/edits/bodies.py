@@ -1,12 +1,15 @@
 #!/usr/bin/env python3
 """Shows that the prover refuses each wrong body of `crates/NAME/edits`, at a goal of the function that it changes.
 
-    tools/edits/bodies.py [--jobs N] [--verbose] [--right] [--after LOG] [CRATE[/EDIT]..]
+    tools/edits/bodies.py [--jobs N] [--verbose] [--anew] [--right] [--after LOG] [CRATE[/EDIT]..]
 
 Run it at the top of the repository, over the libraries that `rt ci` proved, or beside it with --after LOG: then it
 begins with a crate as soon as the log of `rt ci` names it as proved, with fewer checks at a time until that has ended.
 The README beside this file says how bodies are tried. A line says for each file of edits whether all its bodies were
 refused, and another for each body that was not. The last line is how many bodies were; the status is 1 if one was not.
+A body that was refused is kept, for this user and on this machine, by the sum of all that its check read: the texts of
+its crate and of the libraries below, the kit, and these tools. So a later run tries only bodies that are new, or whose
+texts have changed, and with --anew all. With --verbose lines tell what each check took, and each body in it.
 With --right the right body of each function that can be copied is tried in the copy's place, and must be proved there:
 so what refuses a wrong body is that body, and nothing that a copy lacks.
 """
@@ -24,6 +27,7 @@ from pathlib import Path
 sys.path[:0] = [str(Path(__file__).resolve().parent.parent)]
 sys.dont_write_bytecode = True
 from edits import Body, bodies_of  # noqa: E402
+from kept import Kept  # noqa: E402
 from kit import load_rt  # noqa: E402
 from trial import Trial  # noqa: E402
 
@@ -69,12 +73,12 @@ class Run:
         try:
             for edit in edits:
                 found += bodies_of(edit, self.top / "crates" / name)
-            with tempfile.TemporaryDirectory(prefix=f"bodies-{os.getpid()}-") as room:
-                trial = Trial(self, name, room)
-                if self.options.right:
-                    found = trial.try_right(found)
-                else:
-                    trial.run(found)
+            if self.options.right:
+                found = self.tried(name, found)
+            else:
+                kept = Kept(self.rtlib.Crate(f"{self.top}/crates/{name}", str(self.top), {}), bool(self.options.after))
+                self.tried(name, found if self.options.anew else kept.take(found))
+                kept.keep(found)
             self.bodies += found
         except (OSError, ValueError) as why:
             with self.print:
@@ -83,6 +87,17 @@ class Run:
         with self.print:
             for edit in edits:
                 self.tell(name, edit.stem, [it for it in found if it.edit == edit.stem])
+
+    def tried(self, name, bodies):
+        """Tries bodies of a crate, if there are any, and returns those that were tried."""
+        if not bodies:
+            return []
+        with tempfile.TemporaryDirectory(prefix=f"bodies-{os.getpid()}-") as room:
+            trial = Trial(self, name, room)
+            if self.options.right:
+                return trial.try_right(bodies)
+            trial.run(bodies)
+            return bodies
 
     def say(self, text):
         """Prints what a check took, if that is asked for."""
@@ -96,11 +111,14 @@ class Run:
             print(f"{name}/{edit}: {good} of {len(bodies)} right bodies proved in a copy", flush=True)
         else:
             verdict = "refused" if bodies and good == len(bodies) else "NOT REFUSED"
-            print(f"{verdict}: {name}/{edit}: {good} of {len(bodies)} at their own goal", flush=True)
+            before = sum(it.is_kept for it in bodies)
+            before = f", {before} of them in an earlier run" if before else ""
+            print(f"{verdict}: {name}/{edit}: {good} of {len(bodies)} at their own goal{before}", flush=True)
         for body in bodies:
             if self.options.verbose or not body.told:
                 why = body.told or ("NOT PROVED: " if self.options.right else "NOT REFUSED AT ITS OWN GOAL: ") + body.why
-                print(f"    {body.path}:{body.line} {' '.join(body.functions())}: {why[:160]}", flush=True)
+                took = f" ({body.took:.0f} seconds)" if body.took else ""
+                print(f"    {body.path}:{body.line} {' '.join(body.functions())}{took}: {why[:160]}", flush=True)
 
     def lanes(self):
         return self.options.jobs if self.log.ended else max(1, self.options.jobs // 2)
@@ -139,12 +157,15 @@ def main():
     words = argparse.ArgumentParser(description=__doc__, formatter_class=argparse.RawDescriptionHelpFormatter)
     words.add_argument("--jobs", type=int, default=min(4, len(os.sched_getaffinity(0))))
     words.add_argument("--verbose", action="store_true")
+    words.add_argument("--anew", action="store_true", help="try also what was refused before, over the same texts")
     words.add_argument("--right", action="store_true", help="try the right bodies instead, which must be proved")
     words.add_argument("--after", metavar="LOG")
     words.add_argument("crates", nargs="*", metavar="CRATE[/EDIT]")
     run = Run(words.parse_args())
     run.all(edits_of(run.top, run.options.crates))
-    good = sum(bool(it.told) for it in run.bodies)
+    good, before = sum(bool(it.told) for it in run.bodies), sum(it.is_kept for it in run.bodies)
+    if before:
+        print(f"{before} bodies were refused in an earlier run, over the same texts")
     print(f"{good} of {len(run.bodies)} bodies {'proved in a copy' if run.options.right else 'refused at their own goal'}")
     return 0 if run.bodies and good == len(run.bodies) else 1
 

@@ -1,6 +1,7 @@
 """Reads the edits of a crate: wrong bodies, and by which names the prover knows the functions that they change."""
 
 import re
+from functools import cache
 
 FUNCTION = re.compile(r"\bfn\s+(\w+)")
 TRAIT = re.compile(r"(?:pub(?:\(\w+\))? )?trait (\w+)")
@@ -17,8 +18,8 @@ class Body:
         self.pairs, self.names, self.owner, self.others, self.text = [], [], "", [], ""
         # the functions of its file, the traits of its crate, and the module of its type
         self.known, self.traits, self.home = set(), set(), None
-        self.told, self.why, self.tries, self.number, self.is_declared = "", "", 0, 0, False
-        self.is_copied, self.is_in_macro = True, False
+        self.told, self.why, self.tries, self.took, self.number, self.is_declared = "", "", 0, 0, 0, False
+        self.is_copied, self.is_in_macro, self.is_kept = True, False, False
 
     def place(self, lines):
         """Finds the function around the edited line, and the type whose impl contains it."""
@@ -200,15 +201,19 @@ def located(path, text, types, traits):
             yield body.functions()[0], body
 
 
+@cache
 def texts_of(folder):
+    """The files of a crate's source, and their texts when they were first read."""
     return {f"src/{it.relative_to(folder / 'src')}": it.read_text(encoding="utf-8") for it in folder.glob("src/**/*.rt")}
 
 
+@cache
 def types_of(folder):
     """The module of each type that stands in the source of a crate."""
     return {name: module_of(path) for path, text in texts_of(folder).items() for name in TYPE.findall(text)}
 
 
+@cache
 def traits_of(folder):
     return {name for text in texts_of(folder).values() for name in DECLARED.findall(text)}
 

@@ -26,6 +26,8 @@ NO_PROOF = re.compile(r"\./proofs/(\S+)/Proof\.antt: error(?:\[reserved-name\])?
 ENDED = re.compile(r"only=\d+ holes=\d+")
 HOLDS = re.compile(r"no holes|depends on a hole in|proved$")
 FUNCTION_LINE = re.compile(r"fn \w+::(\S+): (.*)")
+# What it prints once it is through with a function, if it is asked to.
+THROUGH = re.compile(r"checked \w+::(\S+), \d+ of \d+")
 # What a check takes, in GB, if it is a large one.
 LEAST_MEMORY = 4
 
@@ -73,6 +75,8 @@ class Trial:
         # the functions that count as proved, and other names that have no proof
         self.functions = functions_of(self.source) | {it for it in run.log.functions(name) if has_proof(it)}
         self.unknown, self.types, self.traits = set(), types_of(self.source), traits_of(self.source)
+        # the seconds after which the prover was through with each function, if that is asked for
+        self.took = {}
         self.proofs = self.source / "proofs"
         self.command = [run.rtlib.RATTLE, "check", *crate.words(["--jobs", "1"], keeps=False), "--allow-holes"]
         self.kept = Path(room) / "kept"
@@ -133,14 +137,14 @@ class Trial:
             text = hollow(path, text, self.functions - asked, self.types, self.traits)
             (self.folder / path).write_text(text, encoding="utf-8")
         only = [word for it in sorted(asked) for word in ("--only", it)]
-        ran = self.started(only)
-        if ran.returncode == -signal.SIGKILL:
+        status, lines = self.started(only)
+        if status == -signal.SIGKILL:
             # most likely for memory
-            ran = self.started(only)
+            status, lines = self.started(only)
         self.whole.offers |= {it.name for it in self.kept.glob("*-offers")}
         for path in texts_of(self.source):
             shutil.copy2(self.source / path, self.folder / path)
-        return ran.stdout.split("\n")
+        return lines
 
     def refuse_offers(self):
         """Leaves the prover no folder for the files of proof that it would offer, for which it runs once more: no one reads
@@ -151,13 +155,23 @@ class Trial:
             (self.kept / name).touch()
 
     def started(self, only):
-        """Runs the prover once there is memory for it. What rt ci still proves goes first."""
+        """Runs the prover once there is memory for it, and returns its status and what it prints, in lines. What rt ci still
+        proves goes first."""
         self.refuse_offers()
         while free_memory() < LEAST_MEMORY and not self.whole.log.ended:
             time.sleep(5)
         gently = [] if self.whole.log.ended else ["nice", "-n", "19"]
-        return subprocess.run([*gently, *self.command, *only], cwd=self.folder, env=self.environment, stdin=subprocess.DEVNULL,
-                              stdout=subprocess.PIPE, stderr=subprocess.STDOUT, errors="replace")
+        told = ["--progress"] if self.whole.options.verbose else []
+        lines, last = [], time.monotonic()
+        with subprocess.Popen([*gently, *self.command, *only, *told], cwd=self.folder, env=self.environment, stdin=subprocess.DEVNULL,
+                              stdout=subprocess.PIPE, stderr=subprocess.STDOUT, errors="replace") as ran:
+            for line in ran.stdout:
+                lines.append(line.removesuffix("\n"))
+                through = THROUGH.match(line)
+                if through:
+                    now = time.monotonic()
+                    self.took[through[1]], last = now - last, now
+        return ran.returncode, lines
 
     def assume_all(self, names):
         """Puts one hole in the place of the proofs of these functions: rt ci has proved them. Each gets its proof from that
@@ -195,6 +209,8 @@ class Trial:
                 continue
             began = time.monotonic()
             again, tried = self.judge(places, self.check(texts, places)), [it.body for it in places]
+            for place in places:
+                place.body.took += sum(self.took.get(it, 0) for it in place.functions)
             left, alone = ([it for it in group if it not in tried] for group in (left, alone))
             for body in again:
                 body.tries, body.is_copied = body.tries + 1, False
