@@ -12,3 +12,4 @@ pub mod Appending
 pub mod Drawn
 pub mod Merging
 pub mod Summing
+pub mod Tallies

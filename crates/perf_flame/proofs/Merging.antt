@@ -99,7 +99,7 @@ commute [] s t m n =
 commute (l ∷ ls) s t m n = both s t m n l ls (cmp s l.stack) (cmp t l.stack) refl refl (commute ls s t m n)
 
 -- a count that is added before others may be added after them
-past : (ys : List Line) (ls : List Line) (s : List ℕ) (n : ℕ) → add_lines (add_count ls s n) ys ≡ add_count (add_lines ls ys) s n
+pub past : (ys : List Line) (ls : List Line) (s : List ℕ) (n : ℕ) → add_lines (add_count ls s n) ys ≡ add_count (add_lines ls ys) s n
 past [] ls s n = refl
 past (y ∷ ys) ls s n = ap (λ (ks : List Line). add_lines ks ys) (commute ls s y.stack n y.count) ∙ past ys (add_count ls y.stack y.count) s n
 
@@ -119,7 +119,7 @@ twice_step ordering.Equal l ls s m n a rest =
 twice_step ordering.Greater l ls s m n a rest =
     ap (λ (ks : List Line). l ∷ ks) rest ∙ sym (ap (λ o. placed o s n l (add_count ls s m)) a)
 
-twice : (ls : List Line) (s : List ℕ) (m n : ℕ) → add_count ls s (added m n) ≡ add_count (add_count ls s m) s n
+pub twice : (ls : List Line) (s : List ℕ) (m n : ℕ) → add_count ls s (added m n) ≡ add_count (add_count ls s m) s n
 twice [] s m n = sym (ap (λ o. match_ordering o (stack_line s n ∷ stack_line s m ∷ []) (stack_line s (added m n) ∷ []) (stack_line s m ∷ stack_line s n ∷ [])) (itself s))
 twice (l ∷ ls) s m n = twice_step (cmp s l.stack) l ls s m n refl (twice ls s m n)
 

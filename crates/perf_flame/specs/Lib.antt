@@ -1,5 +1,6 @@
 pub mod Lines
 pub mod FoldedLines
+pub mod Tallies
 pub mod Stacks
 pub mod StackText
 pub mod Messages

@@ -46,7 +46,16 @@ impl Folded {
         ensures kept { OnErr result (folded_lines self.new ≡ folded_lines self.old) }
     {
         let owned = Vec::from_slice(self.alloc, stack)?;
-        let sum = self.counts.entry(owned)?.or_insert(0);
+        self.add_owned(owned, count)
+    }
+
+    // The same for a stack that is kept if it is new.
+    pub(crate) fn add_owned(&mut self, stack: Vec<u8>, count: u64) -> Result<(), AllocError>
+        ensures added { OnOk result
+            (folded_lines self.new ≡ add_count (folded_lines self.old) stack.items count) }
+        ensures kept { OnErr result (folded_lines self.new ≡ folded_lines self.old) }
+    {
+        let sum = self.counts.entry(stack)?.or_insert(0);
         *sum = sum.wrapping_add(count);
         Ok(())
     }

@@ -12,3 +12,4 @@ pub mod laws;
 pub mod reading;
 pub mod stack;
 mod svg;
+pub mod tally;

@@ -49,6 +49,15 @@ impl Stack {
         pushed
     }
 
+    /// Appends the text of another stack. It fails only if memory runs out, and then the stack is as it
+    /// was.
+    pub fn append(&mut self, other: &Stack) -> Result<(), AllocError>
+        ensures ok { OnOk result (stack_text self.new ≡ stack_text self.old ++ stack_text other.now) }
+        ensures err { OnErr result (stack_text self.new ≡ stack_text self.old) }
+    {
+        self.bytes.extend_from_slice(&other.bytes)
+    }
+
     /// The text so far.
     pub fn text(&self) -> &[u8]
         ensures { result.now ≡ stack_text self.now }

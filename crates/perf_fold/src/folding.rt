@@ -15,6 +15,7 @@ use crate::labels::{Label, counts_at, labels_of, period_at};
 use crate::stack::{put_calls, put_stack};
 use perf_file::{Entry, Recording};
 use perf_flame::folded::Folded;
+use perf_flame::tally::Tally;
 use perf_stacks::{Frames, Stacks};
 use perf_walk::{Call, Filter, Found, Sample, Walk, sample_in};
 use std::alloc::{AllocError, Global};
@@ -73,12 +74,13 @@ struct Folder<'a, 'p> {
     labels: &'a [Label],
     stacks: Stacks<'p>,
     calls: Vec<Call>,
-    folded: Folded,
+    tally: Tally,
 }
 
 impl<'a, 'p> Folder<'a, 'p> {
     ghost use Rattle.std.specs.Prelude.{Some, reverse};
     ghost use Rattle.perf_flame.specs.Lines.{add_count};
+    ghost use Rattle.perf_flame.specs.Tallies.{tally_lines};
     ghost use Rattle.perf_fold.specs.EventLabels.{label_at};
     ghost use Rattle.perf_fold.specs.SampleStacks.{sample_calls, stack_text};
     ghost use Rattle.perf_sample_types.specs.Sample.{SampleValue};
@@ -90,14 +92,14 @@ impl<'a, 'p> Folder<'a, 'p> {
     fn new(alloc: Global, how: Choice<'a>, labels: &'a [Label]) -> Folder<'a, 'p>
         ensures how { result.how ≡ how.entry }
         ensures labels { result.labels.now ≡ labels.now }
-        ensures lines { folded_lines result.folded ≡ [] }
+        ensures lines { tally_lines result.tally ≡ [] }
     {
         Folder {
             how,
             labels,
             stacks: Stacks::new(alloc),
             calls: Vec::new(alloc),
-            folded: Folded::new(alloc),
+            tally: Tally::new(alloc),
         }
     }
 
@@ -113,7 +115,7 @@ impl<'a, 'p> Folder<'a, 'p> {
             IsPast walk.now.history m.known →
             sample_of m.config (order_of (view walk.now.recording.now).order) m.frame ≡ Some s →
             sample.now ≡ sample_view walk.now.frame.misc s →
-            OnOk result (folded_lines self.new.folded ≡ add_count (folded_lines self.old.folded)
+            OnOk result (tally_lines self.new.tally ≡ add_count (tally_lines self.old.tally)
             (stack_text self.old.how.frames (labels_view self.old.labels.now) m.event m.known sample.now
             (reverse (sample_calls walk.now.frame.misc s)))
             (folds.weight_at self.old.how (labels_view self.old.labels.now) m sample.now)) }
@@ -134,7 +136,8 @@ impl<'a, 'p> Folder<'a, 'p> {
             calls,
         )?;
         let weight = self.weight(walk, found, sample);
-        self.folded.add(self.stacks.text(), weight)
+        let number = self.stacks.number();
+        self.tally.add(number, self.stacks.text(), weight)
     }
 
     // What a sample counts as, that of a frame that was found.
@@ -175,8 +178,8 @@ impl<'a, 'p> Folder<'a, 'p> {
             IsPast walk.now.history m.known →
             sample_of m.config (order_of (view walk.now.recording.now).order) m.frame ≡ Some s →
             sample.now ≡ sample_view walk.now.frame.misc s →
-            OnOk result (folded_lines self.new.folded ≡ folds.add_taken self.old.how
-            (labels_view self.old.labels.now) m walk.now.frame.misc (folded_lines self.old.folded) s) }
+            OnOk result (tally_lines self.new.tally ≡ folds.add_taken self.old.how
+            (labels_view self.old.labels.now) m walk.now.frame.misc (tally_lines self.old.tally) s) }
         ensures how { self.new.how ≡ self.old.how }
         ensures labels { self.new.labels ≡ self.old.labels }
     {
@@ -191,9 +194,9 @@ impl<'a, 'p> Folder<'a, 'p> {
     fn add(&mut self, walk: &Walk<'_, 'p>, found: &Found<'_>) -> Result<(), AllocError>
         ensures added { (m : Moment) → IsFrameOf (view walk.now.recording.now) m found.now walk.now.frame →
             IsPast walk.now.history m.known →
-            OnOk result (folded_lines self.new.folded ≡ folds.add_chosen self.old.how
+            OnOk result (tally_lines self.new.tally ≡ folds.add_chosen self.old.how
             (labels_view self.old.labels.now) (order_of (view walk.now.recording.now).order)
-            (folded_lines self.old.folded) m) }
+            (tally_lines self.old.tally) m) }
         ensures how { self.new.how ≡ self.old.how }
         ensures labels { self.new.labels ≡ self.old.labels }
     {
@@ -208,8 +211,8 @@ impl<'a, 'p> Folder<'a, 'p> {
     fn go_on(&mut self, walk: &mut Walk<'_, 'p>, entry: &Entry) -> Result<(), AllocError>
         ensures gone { (known : List Change) → IsPast walk.old.history known →
             OnOk result (IsPast walk.new.history (known_after (view walk.old.recording.now) entry.now known)
-            × (folded_lines self.new.folded ≡ folds.add_if self.old.how (labels_view self.old.labels.now)
-            (order_of (view walk.old.recording.now).order) (folded_lines self.old.folded)
+            × (tally_lines self.new.tally ≡ folds.add_if self.old.how (labels_view self.old.labels.now)
+            (order_of (view walk.old.recording.now).order) (tally_lines self.old.tally)
             (moment_at (view walk.old.recording.now) entry.now known))) }
         ensures how { self.new.how ≡ self.old.how }
         ensures labels { self.new.labels ≡ self.old.labels }
@@ -270,5 +273,5 @@ fn fold_entries(
     for entry in entries {
         folder.go_on(&mut walk, entry)?;
     }
-    Ok(folder.folded)
+    folder.tally.into_folded()
 }

@@ -50,7 +50,7 @@ fn push_if_empty(calls: &mut Vec<Call>, call: Call) -> Result<(), AllocError>
     Ok(())
 }
 
-// Puts the calls of a sample in place of others, the outermost first, by the frame that was found.
+// Puts the calls of a sample in place of others, the innermost first, by the frame that was found.
 pub(crate) fn put_calls(
     calls: &mut Vec<Call>,
     walk: &Walk<'_, '_>,
@@ -61,7 +61,7 @@ pub(crate) fn put_calls(
         IsFrameOf (view walk.now.recording.now) m found.now walk.now.frame →
         sample_of m.config (order_of (view walk.now.recording.now).order) m.frame ≡ Some s →
         sample.now ≡ sample_view walk.now.frame.misc s →
-        OnOk result (calls.new.items ≡ reverse (stack.sample_calls walk.now.frame.misc s)) }
+        OnOk result (calls.new.items ≡ stack.sample_calls walk.now.frame.misc s) }
 {
     calls.clear();
     push_found(calls, walk, found)?;
@@ -69,9 +69,7 @@ pub(crate) fn put_calls(
         mode: sample.mode,
         address: sample.ip,
     };
-    push_if_empty(calls, own)?;
-    calls.reverse();
-    Ok(())
+    push_if_empty(calls, own)
 }
 
 // Begins a stack by the name of a thread.
@@ -127,7 +125,7 @@ fn push_call<'p>(
     stacks.push(frames, call.mode, call.address, place)
 }
 
-// Appends the frames of calls in a process.
+// Appends the frames of calls in a process, from the last to the first.
 fn push_each<'p>(
     stacks: &mut Stacks<'p>,
     memory: &Memory<'_, 'p>,
@@ -136,16 +134,17 @@ fn push_each<'p>(
 ) -> Result<(), AllocError>
     ensures { (pid : ℕ) (known : List Change) → IsMemoryOf pid known memory.now →
         OnOk result (text_of stacks.new
-        ≡ text_of stacks.old ++ stack.calls_text frames pid known calls.now) }
+        ≡ text_of stacks.old ++ stack.calls_text frames pid known (reverse calls.now)) }
 {
-    for call in calls {
-        push_call(stacks, memory, frames, *call)?;
+    for index in 0..calls.len() {
+        let call = calls[calls.len() - 1 - index];
+        push_call(stacks, memory, frames, call)?;
     }
     Ok(())
 }
 
-// Makes the stack of a sample with these calls, of the event with that number, by what is known in a
-// walk.
+// Makes the stack of a sample with these calls, the innermost first, of the event with that number, by
+// what is known in a walk.
 pub(crate) fn put_stack<'p>(
     stacks: &mut Stacks<'p>,
     walk: &Walk<'_, 'p>,
@@ -157,7 +156,7 @@ pub(crate) fn put_stack<'p>(
 ) -> Result<(), AllocError>
     ensures { (known : List Change) → IsPast walk.now.history known →
         OnOk result (text_of stacks.new
-        ≡ stack.stack_text frames (labels_view labels.now) event known sample.now calls.now) }
+        ≡ stack.stack_text frames (labels_view labels.now) event known sample.now (reverse calls.now)) }
 {
     start(stacks, walk, sample.tid)?;
     push_event(stacks, labels, event)?;

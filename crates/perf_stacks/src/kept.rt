@@ -77,13 +77,18 @@ fn is_same(first: &Spot<'_>, second: &Spot<'_>) -> bool
     }
 }
 
+// A number that differs for most texts.
+pub(crate) fn number_of_text(text: &[u8]) -> u64 {
+    text.iter().fold(
+        0u64,
+        |sum, byte| sum.wrapping_mul(31).wrapping_add(u64::from(*byte)),
+    )
+}
+
 // A number that differs for most files.
 fn number_of(file: File<'_>) -> u64 {
     match file {
-        File::Named(name) | File::Symbol(name) => name.iter().fold(
-            0u64,
-            |sum, byte| sum.wrapping_mul(31).wrapping_add(u64::from(*byte)),
-        ),
+        File::Named(name) | File::Symbol(name) => number_of_text(name),
         File::PerfMap(pid) => u64::from(pid),
     }
 }
@@ -119,6 +124,7 @@ fn push_spot(text: &mut Vec<u8>, spot: Spot<'_>) -> Result<(), AllocError>
 pub(crate) struct Kept<'p> {
     spot: Spot<'p>,
     stack: Stack,
+    number: u64,
     ghost is_text: { texts.stack_text stack ≡ frame_text (spot_name spot) },
 }
 
@@ -130,7 +136,12 @@ impl<'p> Kept<'p> {
     {
         let mut stack = Stack::new(alloc);
         stack.push_frame(name)?;
-        Ok(Kept { spot, stack })
+        let number = number_of_text(stack.text());
+        Ok(Kept {
+            spot,
+            stack,
+            number,
+        })
     }
 }
 
@@ -193,36 +204,41 @@ impl<'p> KeptFrames<'p> {
         Ok(())
     }
 
-    // Appends the text of a frame that is not kept yet, and keeps it.
+    // Appends the text of a frame that is not kept yet, keeps it, and returns its number.
     fn push_new(
         &mut self,
-        text: &mut Vec<u8>,
+        stack: &mut Stack,
         spot: Spot<'p>,
         first: usize,
-    ) -> Result<(), AllocError>
-        ensures { OnOk result (text.new.items
-            ≡ text.old.items ++ frame_text (spot_name spot.entry)) }
+    ) -> Result<u64, AllocError>
+        ensures { OnOk result (texts.stack_text stack.new
+            ≡ texts.stack_text stack.old ++ frame_text (spot_name spot.entry)) }
     {
         self.name.clear();
         push_spot(&mut self.name, spot)?;
         let kept = Kept::new(self.alloc, spot, &self.name)?;
-        text.extend_from_slice(kept.stack.text())?;
+        stack.append(&kept.stack)?;
         if self.slots.is_empty() {
             self.slots.resize((1 << BITS) + WAYS, usize::MAX)?;
         }
         let slot = self.slot_from(first);
-        self.keep(slot, kept)
+        let number = kept.number;
+        self.keep(slot, kept)?;
+        Ok(number)
     }
 
-    /// Appends the text of a frame in a stack.
-    pub(crate) fn push(&mut self, text: &mut Vec<u8>, spot: Spot<'p>) -> Result<(), AllocError>
-        ensures { OnOk result (text.new.items
-            ≡ text.old.items ++ frame_text (spot_name spot.entry)) }
+    /// Appends the text of a frame in a stack, and returns a number that differs for most frames.
+    pub(crate) fn push(&mut self, stack: &mut Stack, spot: Spot<'p>) -> Result<u64, AllocError>
+        ensures { OnOk result (texts.stack_text stack.new
+            ≡ texts.stack_text stack.old ++ frame_text (spot_name spot.entry)) }
     {
         let first = first_slot(spot);
         match self.find(&spot, first) {
-            Some(kept) => text.extend_from_slice(kept.stack.text()),
-            None => self.push_new(text, spot, first),
+            Some(kept) => {
+                stack.append(&kept.stack)?;
+                Ok(kept.number)
+            }
+            None => self.push_new(stack, spot, first),
         }
     }
 }

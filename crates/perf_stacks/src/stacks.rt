@@ -4,11 +4,16 @@ ghost use Rattle.std.specs.Prelude.{◌≡◌, ◌++◌, [], OnOk, map};
 ghost use Rattle.perf_flame.specs.Stacks.{clean, frame_text};
 ghost use Rattle.perf_stacks.specs.Names as names;
 
-use crate::kept::{KeptFrames, spot_of};
+use crate::kept::{KeptFrames, number_of_text, spot_of};
 use crate::names::{Frames, push_thread};
 use perf_flame::stack::Stack;
 use perf_history::{Mode, Name, Place};
 use std::alloc::{AllocError, Global};
+
+// A number of a stack with one more part, by the number of that.
+fn joined(number: u64, part: u64) -> u64 {
+    (number ^ part).wrapping_mul(0x9e37_79b9_7f4a_7c15)
+}
 
 /// The text of a stack, which grows from the outermost frame to the innermost. In names `;` and control
 /// bytes become `_`.
@@ -17,9 +22,9 @@ use std::alloc::{AllocError, Global};
 /// [`Stacks::start`].
 #[derive(Drop)]
 pub struct Stacks<'p> {
-    text: Vec<u8>,
     name: Vec<u8>,
     stack: Stack,
+    number: u64,
     kept: KeptFrames<'p>,
 }
 
@@ -31,9 +36,9 @@ impl<'p> Stacks<'p> {
         ensures { text_of result ≡ [] }
     {
         Stacks {
-            text: Vec::new(alloc),
             name: Vec::new(alloc),
             stack: Stack::new(alloc),
+            number: 0,
             kept: KeptFrames::new(alloc),
         }
     }
@@ -44,18 +49,16 @@ impl<'p> Stacks<'p> {
     {
         self.name.clear();
         push_thread(&mut self.name, thread)?;
-        self.stack.start(&self.name)?;
-        self.text.clear();
-        self.text.extend_from_slice(self.stack.text())
+        self.number = number_of_text(&self.name);
+        self.stack.start(&self.name)
     }
 
     /// Appends a frame that has a name, such as that of an event.
     pub fn push_named(&mut self, name: &[u8]) -> Result<(), AllocError>
         ensures { OnOk result (text_of self.new ≡ text_of self.old ++ frame_text name.now) }
     {
-        self.stack.start(b"")?;
-        self.stack.push_frame(name)?;
-        self.text.extend_from_slice(self.stack.text())
+        self.number = joined(self.number, number_of_text(name));
+        self.stack.push_frame(name)
     }
 
     /// Appends the frame of an address at which code runs in this mode: the name of the file that is
@@ -71,14 +74,21 @@ impl<'p> Stacks<'p> {
         ensures { OnOk result (text_of self.new ≡ text_of self.old
             ++ frame_text (names.frame_name frames mode address place.entry)) }
     {
-        self.kept
-            .push(&mut self.text, spot_of(frames, mode, address, place))
+        let spot = spot_of(frames, mode, address, place);
+        let part = self.kept.push(&mut self.stack, spot)?;
+        self.number = joined(self.number, part);
+        Ok(())
     }
 
     /// The text so far.
     pub fn text(&self) -> &[u8]
         ensures { result.now ≡ text_of self.now }
     {
-        &self.text
+        self.stack.text()
+    }
+
+    /// A number that is the same for the same text, and differs for most texts.
+    pub fn number(&self) -> u64 {
+        self.number
     }
 }

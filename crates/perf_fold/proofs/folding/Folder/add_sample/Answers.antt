@@ -1,6 +1,6 @@
 use Rattle.std.proofs.Common.{ℕ, List, reverse, ap, ◌∙◌}
 use Rattle.std.proofs.lemmas.Result.{on_ok_weaker}
-use Rattle.perf_flame.specs.FoldedLines.{folded_lines}
+use Rattle.perf_flame.specs.Tallies.{tally_lines}
 use Rattle.perf_flame.specs.Lines.{add_count}
 use Rattle.perf_walk.specs.declared.calls.Call.{Call}
 use Rattle.perf_fold.specs.EventLabels.{labels_view}
@@ -17,7 +17,7 @@ returns-clause-added c = λ m s is past sampled same.
     let text : List ℕ = stack_text frames labels m.event m.known sample (reverse (sample_calls c.args.walk.now.frame.misc s)) in
     let stack =
     c.text.ensures ∙ c.in_ok-put_stack.ensures m.known past
-    ∙ ap (λ (event : ℕ). stack_text frames labels event m.known sample c.deref.result.now) is.event
-    ∙ ap (λ (xs : List Call). stack_text frames labels m.event m.known sample xs) (c.deref.ensures.value ∙ calls) in
-    let line = ap (λ (t : List ℕ). add_count (folded_lines own.folded) t c.weight-weight.result) stack in
-    on_ok_weaker c.add.result (λ e. e ∙ line ∙ ap (λ (n : ℕ). add_count (folded_lines own.folded) text n) (c.weight-weight.ensures m s is sampled)) c.add.ensures.added
+    ∙ ap (λ (event : ℕ). stack_text frames labels event m.known sample (reverse c.deref.result.now)) is.event
+    ∙ ap (λ (xs : List Call). stack_text frames labels m.event m.known sample (reverse xs)) (c.deref.ensures.value ∙ calls) in
+    let line = ap (λ (t : List ℕ). add_count (tally_lines own.tally) t c.weight-weight.result) stack in
+    on_ok_weaker c.add.result (λ e. e ∙ line ∙ ap (λ (n : ℕ). add_count (tally_lines own.tally) text n) (c.weight-weight.ensures m s is sampled)) c.add.ensures.added

@@ -1,7 +1,7 @@
 use Rattle.std.proofs.Common.{ap, subst}
 use Rattle.std.specs.Prelude.{Option}
 use Rattle.perf_file.specs.Views.{view}
-use Rattle.perf_flame.specs.FoldedLines.{folded_lines}
+use Rattle.perf_flame.specs.Tallies.{tally_lines}
 use Rattle.perf_walk.specs.Moments.{moment_at, known_after}
 use Rattle.perf_walk.specs.Plain.{IsPast}
 use Rattle.perf_walk.specs.Steps.{Finds}
@@ -17,7 +17,7 @@ returns-in-Some-clause-gone c = λ known past.
     let e = c.args.entry.now in
     let after = c.step.new.self in
     let step = subst (λ (x : Option Found). Finds f (moment_at f e known) x after.frame × IsPast after.history (known_after f e known)) c.in-Some.is (c.in_ok-found.ensures.steps known past) in
-    gone c.add.result f (view after.recording.now) e known c.in-Some.found after.frame after.history own.how (labels_view own.labels.now) (folded_lines own.folded) (folded_lines c.add.new.self.folded)
+    gone c.add.result f (view after.recording.now) e known c.in-Some.found after.frame after.history own.how (labels_view own.labels.now) (tally_lines own.tally) (tally_lines c.add.new.self.tally)
     (ap view c.in_ok-found.ensures.recording) step (λ m is then. c.add.ensures.added m is then)
 
 pub returns-in-None-clause-gone : goal.returns-in-None-clause-gone
@@ -27,4 +27,4 @@ returns-in-None-clause-gone c = λ known past.
     let e = c.args.entry.now in
     let after = c.step.new.self in
     let step = subst (λ (x : Option Found). Finds f (moment_at f e known) x after.frame × IsPast after.history (known_after f e known)) c.in-None.is (c.in_ok-found.ensures.steps known past) in
-    gone_nowhere f e known after.frame after.history own.how (labels_view own.labels.now) (folded_lines own.folded) step
+    gone_nowhere f e known after.frame after.history own.how (labels_view own.labels.now) (tally_lines own.tally) step
