@@ -10,6 +10,9 @@ use std::alloc::{AllocError, Global};
 // How many slots there are at first.
 const FIRST_SLOTS: usize = 1024;
 
+// How many slots a stack may be in: a file can have any number of stacks with the same number.
+const STEPS: usize = 32;
+
 /// A stack, and its count so far.
 #[derive(Drop)]
 pub(crate) struct Counted {
@@ -28,18 +31,22 @@ pub struct Tally {
     alloc: Global,
     entries: Vec<Counted>,
     slots: Vec<usize>,
+    // What was added for stacks without a slot.
+    rest: Folded,
 }
 
-// Puts the index of an entry in a free slot.
-fn put(slots: &mut [usize], number: u64, index: usize) {
+// A free slot for a stack with this number, if there is one.
+fn free_slot(slots: &[usize], number: u64) -> Option<usize>
+    ensures { IfSome result (λ slot. slot < length slots.now) }
+{
     let first = (number >> 32) as usize;
-    for step in 0..slots.len() {
+    for step in 0..slots.len().min(STEPS) {
         let slot = first.wrapping_add(step) % slots.len();
         if slots[slot] == usize::MAX {
-            slots[slot] = index;
-            return;
+            return Some(slot);
         }
     }
+    None
 }
 
 impl Tally {
@@ -54,6 +61,7 @@ impl Tally {
             alloc,
             entries: Vec::new(alloc),
             slots: Vec::new(alloc),
+            rest: Folded::new(alloc),
         }
     }
 
@@ -81,7 +89,7 @@ impl Tally {
             (slice_index_or self.now.entries.items index d).stack.items ≡ stack.now) }
     {
         let first = (number >> 32) as usize;
-        for step in 0..self.slots.len() {
+        for step in 0..self.slots.len().min(STEPS) {
             let slot = first.wrapping_add(step) % self.slots.len();
             let index = self.slots[slot];
             let entry = self.entries.get(index)?;
@@ -102,15 +110,17 @@ impl Tally {
         entry.count = entry.count.wrapping_add(count);
     }
 
-    // Appends an entry.
+    // Appends an entry, or adds to the rest.
     fn push(&mut self, number: u64, stack: &[u8], count: u64) -> Result<(), AllocError>
         ensures added { OnOk result
             (tally_lines self.new ≡ add_count (tally_lines self.old) stack.now count) }
         ensures kept { OnErr result (tally_lines self.new ≡ tally_lines self.old) }
     {
-        if self.slots.len() / 2 <= self.entries.len() {
-            self.grow()?;
-        }
+        self.make_slots()?;
+        let slot = match free_slot(&self.slots, number) {
+            Some(slot) => slot,
+            None => return self.rest.add(stack, count),
+        };
         let index = self.entries.len();
         let stack = Vec::from_slice(self.alloc, stack)?;
         self.entries.push(Counted {
@@ -118,19 +128,25 @@ impl Tally {
             stack,
             count,
         })?;
-        put(&mut self.slots, number, index);
+        self.slots[slot] = index;
         Ok(())
     }
 
-    // Makes more slots.
-    fn grow(&mut self) -> Result<(), AllocError>
-        ensures { self.new.entries ≡ self.old.entries }
+    // Makes more slots, if half of them are not enough.
+    fn make_slots(&mut self) -> Result<(), AllocError>
+        ensures entries { self.new.entries ≡ self.old.entries }
+        ensures rest { self.new.rest ≡ self.old.rest }
     {
+        if self.entries.len() < self.slots.len() / 2 {
+            return Ok(());
+        }
         let len = self.slots.len().saturating_mul(2).max(FIRST_SLOTS);
         let mut slots = Vec::new(self.alloc);
         slots.resize(len, usize::MAX)?;
         for index in 0..self.entries.len() {
-            put(&mut slots, self.entries[index].number, index);
+            if let Some(slot) = free_slot(&slots, self.entries[index].number) {
+                slots[slot] = index;
+            }
         }
         self.slots = slots;
         Ok(())
@@ -141,11 +157,11 @@ impl Tally {
         ensures { IfOk result (λ folded. folded_lines folded ≡ tally_lines self) }
     {
         let Tally {
-            alloc,
+            alloc: _,
             entries,
             slots: _,
+            rest: mut folded,
         } = self;
-        let mut folded = Folded::new(alloc);
         for entry in entries {
             folded.add_owned(entry.stack, entry.count)?;
         }
