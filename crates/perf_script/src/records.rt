@@ -61,10 +61,17 @@ pub(crate) fn push_comm(
     push_thread(text, pid, tid)
 }
 
-// Appends a thread and its parent.
-fn push_task(text: &mut Vec<u8>, pid: u32, tid: u32, ppid: u32, ptid: u32) -> Result<(), AllocError>
+// Appends a word, a thread and its parent.
+pub(crate) fn push_task(
+    text: &mut Vec<u8>,
+    word: &[u8],
+    pid: u32,
+    tid: u32,
+    ppid: u32,
+    ptid: u32,
+) -> Result<(), AllocError>
     ensures { OnOk result (text.new.items ≡ text.old.items
-        ++ records.task_text pid tid ppid ptid) }
+        ++ (word.now ++ records.task_text pid tid ppid ptid)) }
 {
     let mut strip = Strip::new();
     strip.put(")\n");
@@ -72,37 +79,8 @@ fn push_task(text: &mut Vec<u8>, pid: u32, tid: u32, ppid: u32, ptid: u32) -> Re
     strip.put("):(");
     put_pair(&mut strip, ":", pid, tid);
     strip.put("(");
+    text.extend_from_slice(word)?;
     text.extend_from_slice(strip.text().as_bytes())
-}
-
-// Appends a FORK.
-pub(crate) fn push_fork(
-    text: &mut Vec<u8>,
-    pid: u32,
-    tid: u32,
-    ppid: u32,
-    ptid: u32,
-) -> Result<(), AllocError>
-    ensures { OnOk result (text.new.items ≡ text.old.items
-        ++ records.fork_text pid tid ppid ptid) }
-{
-    text.extend_from_slice(b"FORK")?;
-    push_task(text, pid, tid, ppid, ptid)
-}
-
-// Appends an EXIT.
-pub(crate) fn push_exit(
-    text: &mut Vec<u8>,
-    pid: u32,
-    tid: u32,
-    ppid: u32,
-    ptid: u32,
-) -> Result<(), AllocError>
-    ensures { OnOk result (text.new.items ≡ text.old.items
-        ++ records.exit_text pid tid ppid ptid) }
-{
-    text.extend_from_slice(b"EXIT")?;
-    push_task(text, pid, tid, ppid, ptid)
 }
 
 // Appends what was mapped by a thread, where, and from which offset on.
