@@ -5,20 +5,12 @@ ghost use Rattle.std.specs.Fmt.{digits};
 ghost use Rattle.std.specs.List.{flat_map};
 ghost use Rattle.perf_text.specs.Numbers.{hex_byte};
 ghost use Rattle.perf_text.specs.Strips.{strip_text, room_of};
-ghost use Rattle.perf_words.specs.Bits.{has_bit};
 ghost use Rattle.perf_script.specs.RecordText as records;
 
+use crate::bits::has_bit;
 use crate::columns::{push_pair, push_zeros, put_hex_number, put_signed};
 use perf_text::strip::Strip;
 use std::alloc::AllocError;
-
-// Whether a bit of a number is set.
-fn has_bit(number: u32, bit: u32) -> bool
-    requires { bit < 32 }
-    ensures { result ≡ has_bit number bit }
-{
-    (number >> bit) % 2 == 1
-}
 
 // Writes two numbers with a mark between them before the text.
 pub(crate) fn put_pair(strip: &mut Strip, mark: &str, first: u32, second: u32)
@@ -180,6 +172,7 @@ pub(crate) fn push_build_id(text: &mut Vec<u8>, id: &[u8]) -> Result<(), AllocEr
 pub(crate) fn push_rights(text: &mut Vec<u8>, prot: u32, flags: u32) -> Result<(), AllocError>
     ensures { OnOk result (text.new.items ≡ text.old.items ++ records.rights_text prot flags) }
 {
+    let (prot, flags) = (u64::from(prot), u64::from(flags));
     text.extend_from_slice(if has_bit(prot, 0) { b"r" } else { b"-" })?;
     text.extend_from_slice(if has_bit(prot, 1) { b"w" } else { b"-" })?;
     text.extend_from_slice(if has_bit(prot, 2) { b"x" } else { b"-" })?;
@@ -201,7 +194,7 @@ pub(crate) fn push_lost(text: &mut Vec<u8>, lost: u64) -> Result<(), AllocError>
 fn direction(misc: u16) -> &'static [u8]
     ensures { result.now ≡ records.direction misc }
 {
-    let misc = u32::from(misc);
+    let misc = u64::from(misc);
     if !has_bit(misc, 13) {
         b"IN         "
     } else if has_bit(misc, 14) {
@@ -224,7 +217,7 @@ pub(crate) fn push_switch(text: &mut Vec<u8>, misc: u16) -> Result<(), AllocErro
 fn other(misc: u16) -> &'static [u8]
     ensures { result.now ≡ records.other_text misc }
 {
-    if has_bit(u32::from(misc), 13) {
+    if has_bit(u64::from(misc), 13) {
         b"  next pid/tid: "
     } else {
         b"  prev pid/tid: "

@@ -11,6 +11,7 @@ ghost use Rattle.perf_script.specs.Heads.{line_with};
 ghost use Rattle.perf_script.specs.NamespaceText.{namespaces_text};
 ghost use Rattle.perf_script.specs.RecordText as records;
 
+use crate::bits::has_bit;
 use crate::fields::Fields;
 use crate::heads::{Head, is_chained, push_head};
 use crate::namespaces::push_namespaces;
@@ -58,7 +59,7 @@ fn has_flag(frame: &FlatFrame, bit: u32) -> bool
     requires { bit < 16 }
     ensures { result ≡ has_bit frame.now.misc bit }
 {
-    (frame.misc >> bit) % 2 == 1
+    has_bit(u64::from(frame.misc), bit)
 }
 
 // The thread whose name the line of a FORK has.
