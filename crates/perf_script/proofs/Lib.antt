@@ -11,3 +11,4 @@ pub mod Appended
 pub mod NamespaceLists
 pub mod SideLines
 pub mod Parts
+mod Digits

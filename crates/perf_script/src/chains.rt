@@ -1,20 +1,50 @@
 //! The lines of a call chain.
 
-ghost use Rattle.std.specs.Prelude.{◌≡◌, ◌++◌, ℕ, OnOk, List};
+ghost use Rattle.std.specs.Prelude.{◌≡◌, ◌++◌, ℕ, OnOk, List, codes};
 ghost use Rattle.perf_history.specs.Histories.{place_of};
 ghost use Rattle.perf_history.specs.Memories.{IsMemory};
 ghost use Rattle.perf_history.specs.Recorded.{IsHistory};
 ghost use Rattle.perf_history.specs.declared.changes.Change.{Change};
 ghost use Rattle.perf_history.specs.declared.changes.Mode.TheVariants as modes;
 ghost use Rattle.perf_script.specs.Chains as chains;
+ghost use Rattle.perf_script.specs.Columns.{address_column};
+ghost use Rattle.perf_script.specs.Files.{place_column};
 
+use crate::cells::cells_of;
 use crate::columns::push_address;
-use crate::files::{push_place_column_if, shown_address};
+use crate::files::{push_place, shown_address};
 use perf_history::{History, Memory, Mode, Place};
 use perf_walk::Call;
 use std::alloc::AllocError;
 
+// Appends the line of an address alone.
+fn push_bare(text: &mut Vec<u8>, address: u64) -> Result<(), AllocError>
+    ensures { OnOk result (text.new.items ≡ text.old.items
+        ++ (codes "\t" ++ (address_column address ++ codes "\n"))) }
+{
+    text.extend_from_slice(b"\t")?;
+    push_address(text, address)?;
+    text.extend_from_slice(b"\n")
+}
+
+// Appends the line of an address and what is there.
+#[inline(always)]
+fn push_named(
+    text: &mut Vec<u8>,
+    mode: Mode,
+    address: u64,
+    place: Option<Place<'_>>,
+) -> Result<(), AllocError>
+    ensures { OnOk result (text.new.items ≡ text.old.items
+        ++ (codes "\t" ++ (address_column address ++ (place_column mode place.entry ++ codes "\n")))) }
+{
+    text.extend_from_slice(&cells_of(address))?;
+    push_place(text, mode, place)?;
+    text.extend_from_slice(b")\n")
+}
+
 // Appends the line of an address, by what is there, which is named or not.
+#[inline(always)]
 fn push_placed(
     text: &mut Vec<u8>,
     with_place: bool,
@@ -25,10 +55,12 @@ fn push_placed(
     ensures { OnOk result (text.new.items ≡ text.old.items
         ++ chains.placed_line with_place mode address place.entry) }
 {
-    text.extend_from_slice(b"\t")?;
-    push_address(text, shown_address(mode, address, place))?;
-    push_place_column_if(text, with_place, mode, place)?;
-    text.extend_from_slice(b"\n")
+    let shown = shown_address(mode, address, place);
+    if with_place {
+        push_named(text, mode, shown, place)
+    } else {
+        push_bare(text, shown)
+    }
 }
 
 // What is mapped at an address, by the memories in which a process runs code of its own and of the

@@ -1,6 +1,6 @@
 //! The columns of a line.
 
-ghost use Rattle.std.specs.Prelude.{◌≡◌, ◌+◌, ◌≤◌, ◌++◌, OnOk, decimal, replicate};
+ghost use Rattle.std.specs.Prelude.{◌≡◌, ◌+◌, ◌-◌, ◌≤◌, ◌++◌, OnOk, decimal, length, replicate, slice_index_or};
 ghost use Rattle.perf_text.specs.Strips.{strip_text, room_of};
 ghost use Rattle.perf_script.specs.Columns as columns;
 
@@ -31,14 +31,6 @@ pub(crate) fn push_right(text: &mut Vec<u8>, width: usize, word: &[u8]) -> Resul
     text.extend_from_slice(word)
 }
 
-// Appends a text in a column of a width, with spaces after it.
-fn push_left(text: &mut Vec<u8>, width: usize, word: &[u8]) -> Result<(), AllocError>
-    ensures { OnOk result (text.new.items ≡ text.old.items ++ columns.left width word.now) }
-{
-    text.extend_from_slice(word)?;
-    push_fill(text, b' ', width.saturating_sub(word.len()))
-}
-
 // Appends a text in a column of a width, with zeros before it.
 pub(crate) fn push_zeros(text: &mut Vec<u8>, width: usize, word: &[u8]) -> Result<(), AllocError>
     ensures { OnOk result (text.new.items ≡ text.old.items ++ columns.zeros width word.now) }
@@ -65,17 +57,23 @@ pub(crate) fn put_signed(strip: &mut Strip, number: u32)
 pub(crate) fn push_pair(text: &mut Vec<u8>, pid: u32, tid: u32) -> Result<(), AllocError>
     ensures { OnOk result (text.new.items ≡ text.old.items ++ columns.task_pair pid tid) }
 {
-    push_process(text, pid)?;
-    text.extend_from_slice(b"/")?;
-    push_thread(text, tid)
+    let mut strip = Strip::new();
+    put_signed(&mut strip, tid);
+    let length = strip.text().len();
+    strip.put("/");
+    put_process(&mut strip, pid);
+    text.extend_from_slice(strip.text().as_bytes())?;
+    push_fill(text, b' ', 5_usize.saturating_sub(length))
 }
 
 // Appends one of the two.
 fn push_task_number(text: &mut Vec<u8>, number: u32) -> Result<(), AllocError>
     ensures { OnOk result (text.new.items ≡ text.old.items ++ columns.task_number number) }
 {
-    push_process(text, number)?;
-    text.extend_from_slice(b" ")
+    let mut strip = Strip::new();
+    strip.put(" ");
+    put_process(&mut strip, number);
+    text.extend_from_slice(strip.text().as_bytes())
 }
 
 // Appends those of the two that are chosen.
@@ -100,54 +98,83 @@ pub(crate) fn push_task(
     }
 }
 
-// Appends a process.
-fn push_process(text: &mut Vec<u8>, pid: u32) -> Result<(), AllocError>
-    ensures { OnOk result (text.new.items ≡ text.old.items
-        ++ columns.right 5 (columns.signed pid)) }
+// Writes a byte so many times before the text.
+#[inline(always)]
+fn put_fill(strip: &mut Strip, fill: &str, count: usize)
+    requires one { length fill.now ≡ 1 }
+    requires room { count ≤ room_of strip.old }
+    ensures text { strip_text strip.new
+        ≡ replicate count (slice_index_or fill.now 0 0) ++ strip_text strip.old }
+    ensures room { room_of strip.new + count ≡ room_of strip.old }
 {
-    let mut strip = Strip::new();
-    put_signed(&mut strip, pid);
-    push_right(text, 5, strip.text().as_bytes())
+    let mut left = count;
+    while left > 0 {
+        strip.put(fill);
+        left -= 1;
+    }
 }
 
-// Appends a thread.
-fn push_thread(text: &mut Vec<u8>, tid: u32) -> Result<(), AllocError>
-    ensures { OnOk result (text.new.items ≡ text.old.items ++ columns.left 5 (columns.signed tid)) }
+// Writes a byte before the text until what is before its last `end` bytes has a width.
+#[inline(always)]
+fn put_padding(strip: &mut Strip, fill: &str, width: usize, end: usize)
+    requires one { length fill.now ≡ 1 }
+    requires end { end ≤ length (strip_text strip.old) }
+    requires room { width ≤ room_of strip.old }
+    ensures text { strip_text strip.new
+        ≡ replicate (width - (length (strip_text strip.old) - end)) (slice_index_or fill.now 0 0)
+        ++ strip_text strip.old }
+    ensures room { room_of strip.old ≤ room_of strip.new + width }
 {
-    let mut strip = Strip::new();
-    put_signed(&mut strip, tid);
-    push_left(text, 5, strip.text().as_bytes())
+    let length = strip.text().len() - end;
+    put_fill(strip, fill, width.saturating_sub(length));
 }
 
-// Appends a number in a column of a width, with zeros before it.
-fn push_digits(text: &mut Vec<u8>, width: usize, number: u64) -> Result<(), AllocError>
-    ensures { OnOk result (text.new.items ≡ text.old.items
-        ++ columns.zeros width (decimal number)) }
+// Writes a number before the text in a column of a width, with spaces before it.
+#[inline(always)]
+fn put_right(strip: &mut Strip, width: usize, number: u64)
+    requires { width + 20 ≤ room_of strip.old }
+    ensures text { strip_text strip.new ≡ columns.right width (decimal number) ++ strip_text strip.old }
+    ensures room { room_of strip.old ≤ room_of strip.new + (width + 20) }
 {
-    let mut strip = Strip::new();
+    let end = strip.text().len();
     strip.put_number(number);
-    push_zeros(text, width, strip.text().as_bytes())
+    put_padding(strip, " ", width, end);
 }
 
-// Appends a number in a column of a width, with spaces before it.
-fn push_number(text: &mut Vec<u8>, width: usize, number: u64) -> Result<(), AllocError>
-    ensures { OnOk result (text.new.items ≡ text.old.items
-        ++ columns.right width (decimal number)) }
+// Writes a number before the text in a column of a width, with zeros before it.
+#[inline(always)]
+fn put_zeros(strip: &mut Strip, width: usize, number: u64)
+    requires { width + 20 ≤ room_of strip.old }
+    ensures text { strip_text strip.new ≡ columns.zeros width (decimal number) ++ strip_text strip.old }
+    ensures room { room_of strip.old ≤ room_of strip.new + (width + 20) }
 {
-    let mut strip = Strip::new();
+    let end = strip.text().len();
     strip.put_number(number);
-    push_right(text, width, strip.text().as_bytes())
+    put_padding(strip, "0", width, end);
 }
 
-// Appends the number of a processor.
-fn push_cpu_number(text: &mut Vec<u8>, cpu: u32) -> Result<(), AllocError>
-    ensures { OnOk result (text.new.items ≡ text.old.items ++ columns.cpu_number cpu) }
+// Writes a process before the text.
+fn put_process(strip: &mut Strip, pid: u32)
+    requires { 26 ≤ room_of strip.old }
+    ensures text { strip_text strip.new ≡ columns.right 5 (columns.signed pid) ++ strip_text strip.old }
+    ensures room { room_of strip.old ≤ room_of strip.new + 26 }
+{
+    let end = strip.text().len();
+    put_signed(strip, pid);
+    put_padding(strip, " ", 5, end);
+}
+
+// Writes the number of a processor before the text.
+fn put_cpu_number(strip: &mut Strip, cpu: u32)
+    requires { 24 ≤ room_of strip.old }
+    ensures text { strip_text strip.new ≡ columns.cpu_number cpu ++ strip_text strip.old }
+    ensures room { room_of strip.old ≤ room_of strip.new + 24 }
 {
     if cpu < 1 << 31 {
-        push_digits(text, 3, u64::from(cpu))
+        put_zeros(strip, 3, u64::from(cpu));
     } else {
-        text.extend_from_slice(b"-")?;
-        push_digits(text, 2, (1 << 32) - u64::from(cpu))
+        put_zeros(strip, 2, (1 << 32) - u64::from(cpu));
+        strip.put("-");
     }
 }
 
@@ -155,9 +182,11 @@ fn push_cpu_number(text: &mut Vec<u8>, cpu: u32) -> Result<(), AllocError>
 pub(crate) fn push_cpu(text: &mut Vec<u8>, cpu: u32) -> Result<(), AllocError>
     ensures { OnOk result (text.new.items ≡ text.old.items ++ columns.cpu_column cpu) }
 {
-    text.extend_from_slice(b"[")?;
-    push_cpu_number(text, cpu)?;
-    text.extend_from_slice(b"] ")
+    let mut strip = Strip::new();
+    strip.put("] ");
+    put_cpu_number(&mut strip, cpu);
+    strip.put("[");
+    text.extend_from_slice(strip.text().as_bytes())
 }
 
 // A second in nanoseconds.
@@ -167,18 +196,22 @@ const SECOND: u64 = 1_000_000_000;
 pub(crate) fn push_time(text: &mut Vec<u8>, time: u64) -> Result<(), AllocError>
     ensures { OnOk result (text.new.items ≡ text.old.items ++ columns.time_column time) }
 {
-    push_number(text, 5, time / SECOND)?;
-    text.extend_from_slice(b".")?;
-    push_digits(text, 9, time % SECOND)?;
-    text.extend_from_slice(b": ")
+    let mut strip = Strip::new();
+    strip.put(": ");
+    put_zeros(&mut strip, 9, time % SECOND);
+    strip.put(".");
+    put_right(&mut strip, 5, time / SECOND);
+    text.extend_from_slice(strip.text().as_bytes())
 }
 
 // Appends a period.
 pub(crate) fn push_period(text: &mut Vec<u8>, period: u64) -> Result<(), AllocError>
     ensures { OnOk result (text.new.items ≡ text.old.items ++ columns.period_column period) }
 {
-    push_number(text, 10, period)?;
-    text.extend_from_slice(b" ")
+    let mut strip = Strip::new();
+    strip.put(" ");
+    put_right(&mut strip, 10, period);
+    text.extend_from_slice(strip.text().as_bytes())
 }
 
 // Appends an address.

@@ -40,6 +40,7 @@ fn path_name(mode: Mode, path: &[u8]) -> &[u8]
 }
 
 // Appends the name of a file.
+#[inline(always)]
 fn push_file(text: &mut Vec<u8>, mode: Mode, file: File<'_>) -> Result<(), AllocError>
     ensures { OnOk result (text.new.items ≡ text.old.items ++ files.file_name mode file.entry) }
 {
@@ -51,7 +52,12 @@ fn push_file(text: &mut Vec<u8>, mode: Mode, file: File<'_>) -> Result<(), Alloc
 }
 
 // Appends the name of what is at an address.
-fn push_place(text: &mut Vec<u8>, mode: Mode, place: Option<Place<'_>>) -> Result<(), AllocError>
+#[inline(always)]
+pub(crate) fn push_place(
+    text: &mut Vec<u8>,
+    mode: Mode,
+    place: Option<Place<'_>>,
+) -> Result<(), AllocError>
     ensures { OnOk result (text.new.items ≡ text.old.items ++ files.place_name mode place.entry) }
 {
     match place {

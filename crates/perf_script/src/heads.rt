@@ -1,11 +1,11 @@
 //! The columns at the front of a line.
 
-ghost use Rattle.std.specs.Prelude.{◌≡◌, ◌++◌, ◌<◌, OnOk, List, ℕ};
+ghost use Rattle.std.specs.Prelude.{◌≡◌, ◌++◌, OnOk, List, ℕ};
 ghost use Rattle.perf_history.specs.Recorded.{IsHistory};
 ghost use Rattle.perf_history.specs.declared.changes.Change.{Change};
-ghost use Rattle.perf_words.specs.Bits.{has_bit};
 ghost use Rattle.perf_script.specs.Heads as heads;
 
+use crate::bits::has_bit;
 use crate::columns::{push_cpu, push_task, push_time};
 use crate::fields::Fields;
 use crate::threads::push_name_column;
@@ -44,19 +44,11 @@ const CALLCHAIN: u32 = 5;
 
 const CPU: u32 = 7;
 
-// Whether a field is there.
-pub(crate) fn has_field(fields: u64, flag: u32) -> bool
-    requires { flag < 64 }
-    ensures { result ≡ has_bit fields flag }
-{
-    (fields >> flag) % 2 == 1
-}
-
 // Whether lines of a chain follow a sample with these fields.
 pub(crate) fn is_chained(chosen: Fields, fields: u64) -> bool
     ensures { result ≡ heads.is_chained chosen fields }
 {
-    chosen.ip && has_field(fields, IP) && has_field(fields, CALLCHAIN)
+    chosen.ip && has_bit(fields, IP) && has_bit(fields, CALLCHAIN)
 }
 
 // Appends the name of the thread, if it is chosen.
@@ -85,7 +77,7 @@ fn push_thread_if(text: &mut Vec<u8>, history: &History<'_>, head: &Head) -> Res
     ensures { (changes : List Change) → IsHistory history.now changes →
         OnOk result (text.new.items ≡ text.old.items ++ heads.thread_columns_if changes head.now) }
 {
-    if has_field(head.fields, TID) {
+    if has_bit(head.fields, TID) {
         push_thread(text, history, head)
     } else {
         Ok(())
@@ -96,7 +88,7 @@ fn push_thread_if(text: &mut Vec<u8>, history: &History<'_>, head: &Head) -> Res
 fn push_cpu_if(text: &mut Vec<u8>, head: &Head) -> Result<(), AllocError>
     ensures { OnOk result (text.new.items ≡ text.old.items ++ heads.cpu_column_if head.now) }
 {
-    if head.chosen.cpu && has_field(head.fields, CPU) {
+    if head.chosen.cpu && has_bit(head.fields, CPU) {
         push_cpu(text, head.cpu)
     } else {
         Ok(())
@@ -107,7 +99,7 @@ fn push_cpu_if(text: &mut Vec<u8>, head: &Head) -> Result<(), AllocError>
 fn push_time_if(text: &mut Vec<u8>, head: &Head) -> Result<(), AllocError>
     ensures { OnOk result (text.new.items ≡ text.old.items ++ heads.time_column_if head.now) }
 {
-    if head.chosen.time && has_field(head.fields, TIME) {
+    if head.chosen.time && has_bit(head.fields, TIME) {
         push_time(text, head.time)
     } else {
         Ok(())

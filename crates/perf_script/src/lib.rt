@@ -1,6 +1,8 @@
 //! The text of the samples and the other records of a recording, as `perf script` prints it.
 #![tactic(auto)]
 
+mod bits;
+mod cells;
 mod chains;
 mod columns;
 mod error;

@@ -14,6 +14,7 @@ ghost use Rattle.perf_script.specs.Blocks as blocks;
 ghost use Rattle.perf_script.specs.Counters as counters;
 ghost use Rattle.perf_script.specs.Moved as moves;
 
+use crate::bits::has_bit;
 use perf_base::Endian;
 use perf_base::endian::Dynamic;
 use perf_flat::frame::FlatFrame;
@@ -36,14 +37,6 @@ const WITH_ID: u32 = 2;
 const WITH_GROUP: u32 = 3;
 
 const WITH_LOST: u32 = 4;
-
-// Whether a read format has a flag.
-fn has_flag(format: u32, flag: u32) -> bool
-    requires { flag < 32 }
-    ensures { result ≡ has_bit format flag }
-{
-    (format >> flag) % 2 == 1
-}
 
 // The first number of eight bytes.
 pub(crate) fn first_number(order: Dynamic, bytes: &[u8]) -> u64
@@ -139,8 +132,8 @@ fn push_entries(
     push_group(
         readings,
         order,
-        has_flag(frame.read_format, WITH_ID),
-        has_flag(frame.read_format, WITH_LOST),
+        has_bit(u64::from(frame.read_format), WITH_ID),
+        has_bit(u64::from(frame.read_format), WITH_LOST),
         group_bytes(bytes, frame),
     )
 }
@@ -171,7 +164,7 @@ pub fn push_readings(
         sample_of c (order_of order) bytes.now ≡ Some s → has_bit frame.now.present 4 ≡ true →
         OnOk result (readings.new.items ≡ readings.old.items ++ counters.readings_of c.read_format s) }
 {
-    if has_flag(frame.read_format, WITH_GROUP) {
+    if has_bit(u64::from(frame.read_format), WITH_GROUP) {
         push_entries(readings, order, bytes, frame)
     } else {
         push_single(readings, frame)

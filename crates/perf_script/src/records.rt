@@ -5,20 +5,12 @@ ghost use Rattle.std.specs.Fmt.{digits};
 ghost use Rattle.std.specs.List.{flat_map};
 ghost use Rattle.perf_text.specs.Numbers.{hex_byte};
 ghost use Rattle.perf_text.specs.Strips.{strip_text, room_of};
-ghost use Rattle.perf_words.specs.Bits.{has_bit};
 ghost use Rattle.perf_script.specs.RecordText as records;
 
+use crate::bits::has_bit;
 use crate::columns::{push_pair, push_zeros, put_hex_number, put_signed};
 use perf_text::strip::Strip;
 use std::alloc::AllocError;
-
-// Whether a bit of a number is set.
-fn has_bit(number: u32, bit: u32) -> bool
-    requires { bit < 32 }
-    ensures { result ≡ has_bit number bit }
-{
-    (number >> bit) % 2 == 1
-}
 
 // Writes two numbers with a mark between them before the text.
 pub(crate) fn put_pair(strip: &mut Strip, mark: &str, first: u32, second: u32)
@@ -61,10 +53,17 @@ pub(crate) fn push_comm(
     push_thread(text, pid, tid)
 }
 
-// Appends a thread and its parent.
-fn push_task(text: &mut Vec<u8>, pid: u32, tid: u32, ppid: u32, ptid: u32) -> Result<(), AllocError>
+// Appends a word, a thread and its parent.
+pub(crate) fn push_task(
+    text: &mut Vec<u8>,
+    word: &[u8],
+    pid: u32,
+    tid: u32,
+    ppid: u32,
+    ptid: u32,
+) -> Result<(), AllocError>
     ensures { OnOk result (text.new.items ≡ text.old.items
-        ++ records.task_text pid tid ppid ptid) }
+        ++ (word.now ++ records.task_text pid tid ppid ptid)) }
 {
     let mut strip = Strip::new();
     strip.put(")\n");
@@ -72,37 +71,8 @@ fn push_task(text: &mut Vec<u8>, pid: u32, tid: u32, ppid: u32, ptid: u32) -> Re
     strip.put("):(");
     put_pair(&mut strip, ":", pid, tid);
     strip.put("(");
+    text.extend_from_slice(word)?;
     text.extend_from_slice(strip.text().as_bytes())
-}
-
-// Appends a FORK.
-pub(crate) fn push_fork(
-    text: &mut Vec<u8>,
-    pid: u32,
-    tid: u32,
-    ppid: u32,
-    ptid: u32,
-) -> Result<(), AllocError>
-    ensures { OnOk result (text.new.items ≡ text.old.items
-        ++ records.fork_text pid tid ppid ptid) }
-{
-    text.extend_from_slice(b"FORK")?;
-    push_task(text, pid, tid, ppid, ptid)
-}
-
-// Appends an EXIT.
-pub(crate) fn push_exit(
-    text: &mut Vec<u8>,
-    pid: u32,
-    tid: u32,
-    ppid: u32,
-    ptid: u32,
-) -> Result<(), AllocError>
-    ensures { OnOk result (text.new.items ≡ text.old.items
-        ++ records.exit_text pid tid ppid ptid) }
-{
-    text.extend_from_slice(b"EXIT")?;
-    push_task(text, pid, tid, ppid, ptid)
 }
 
 // Appends what was mapped by a thread, where, and from which offset on.
@@ -202,6 +172,7 @@ pub(crate) fn push_build_id(text: &mut Vec<u8>, id: &[u8]) -> Result<(), AllocEr
 pub(crate) fn push_rights(text: &mut Vec<u8>, prot: u32, flags: u32) -> Result<(), AllocError>
     ensures { OnOk result (text.new.items ≡ text.old.items ++ records.rights_text prot flags) }
 {
+    let (prot, flags) = (u64::from(prot), u64::from(flags));
     text.extend_from_slice(if has_bit(prot, 0) { b"r" } else { b"-" })?;
     text.extend_from_slice(if has_bit(prot, 1) { b"w" } else { b"-" })?;
     text.extend_from_slice(if has_bit(prot, 2) { b"x" } else { b"-" })?;
@@ -223,7 +194,7 @@ pub(crate) fn push_lost(text: &mut Vec<u8>, lost: u64) -> Result<(), AllocError>
 fn direction(misc: u16) -> &'static [u8]
     ensures { result.now ≡ records.direction misc }
 {
-    let misc = u32::from(misc);
+    let misc = u64::from(misc);
     if !has_bit(misc, 13) {
         b"IN         "
     } else if has_bit(misc, 14) {
@@ -246,7 +217,7 @@ pub(crate) fn push_switch(text: &mut Vec<u8>, misc: u16) -> Result<(), AllocErro
 fn other(misc: u16) -> &'static [u8]
     ensures { result.now ≡ records.other_text misc }
 {
-    if has_bit(u32::from(misc), 13) {
+    if has_bit(u64::from(misc), 13) {
         b"  next pid/tid: "
     } else {
         b"  prev pid/tid: "

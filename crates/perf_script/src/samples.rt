@@ -9,11 +9,12 @@ ghost use Rattle.perf_script.specs.Heads.{text_if};
 ghost use Rattle.perf_script.specs.SampleText as samples;
 ghost use Rattle.perf_script.specs.Seen.{shown_in};
 
+use crate::bits::has_bit;
 use crate::chains::push_calls;
 use crate::columns::{push_address, push_period};
 use crate::fields::Fields;
 use crate::files::push_place_column_if;
-use crate::heads::{Head, has_field, is_chained, push_head};
+use crate::heads::{Head, is_chained, push_head};
 use perf_history::History;
 use perf_walk::{Call, Sample};
 use std::alloc::AllocError;
@@ -118,7 +119,7 @@ fn push_code(
         OnOk result (text.new.items ≡ text.old.items
         ++ samples.code_columns changes (shown_in shown.now)) }
 {
-    if has_field(shown.fields, CALLCHAIN) {
+    if has_bit(shown.fields, CALLCHAIN) {
         push_chain(text, history, shown)
     } else {
         push_place(text, history, shown)
@@ -135,7 +136,7 @@ fn push_code_if(
         OnOk result (text.new.items ≡ text.old.items
         ++ samples.code_columns_if changes (shown_in shown.now)) }
 {
-    if shown.chosen.ip && has_field(shown.fields, IP) {
+    if shown.chosen.ip && has_bit(shown.fields, IP) {
         push_code(text, history, shown)
     } else {
         Ok(())

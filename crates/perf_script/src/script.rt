@@ -24,8 +24,8 @@ ghost use Rattle.perf_script.specs.ScriptText as script;
 ghost use Rattle.perf_script.specs.Seen.{shown_in};
 ghost use Rattle.perf_script.specs.UnderWay.{AreChosen, AreEvents, IsUnderWay, IsBegun, HasParts, Pushes, shown_by};
 
+use crate::bits::has_bit;
 use crate::fields::Style;
-use crate::heads::has_field;
 use crate::ids::Ids;
 use crate::labels::{Label, labels_of};
 use crate::readings::{Counters, Reading, push_readings};
@@ -125,7 +125,7 @@ fn with_period(heading: Heading<'_>, period: u64) -> Heading<'_>
 fn period_of(heading: Heading<'_>, shown: &Sampled<'_>) -> u64
     ensures { result ≡ script.period_of (heading_view heading.entry) (shown_in shown.now) }
 {
-    if has_field(shown.fields, PERIOD) {
+    if has_bit(shown.fields, PERIOD) {
         shown.sample.period
     } else {
         heading.period
@@ -235,7 +235,7 @@ fn push_shown(
         (script.read_by older readings.now shown.now.fields) × (text.new.items ≡ text.old.items
         ++ script.shown_text all (table_of f.events) older readings.now event changes (shown_in shown.now))) }
 {
-    if has_field(shown.fields, READ) {
+    if has_bit(shown.fields, READ) {
         push_counters(text, events, known, readings, history, shown)
     } else {
         push_plain(text, &events.labels, event, history, shown)
@@ -258,7 +258,7 @@ fn find_parts(
     state.calls.clear();
     push_calls(&mut state.calls, order, bytes, frame)?;
     state.readings.clear();
-    if has_field(frame.present, READ) {
+    if has_bit(frame.present, READ) {
         push_readings(&mut state.readings, order, bytes, frame)
     } else {
         Ok(())

@@ -11,12 +11,13 @@ ghost use Rattle.perf_script.specs.Heads.{line_with};
 ghost use Rattle.perf_script.specs.NamespaceText.{namespaces_text};
 ghost use Rattle.perf_script.specs.RecordText as records;
 
+use crate::bits::has_bit;
 use crate::fields::Fields;
 use crate::heads::{Head, is_chained, push_head};
 use crate::namespaces::push_namespaces;
 use crate::records::{
-    push_bpf, push_build_id, push_cgroup, push_comm, push_exit, push_fork, push_inode,
-    push_ksymbol, push_lost, push_path, push_range, push_rights, push_switch, push_switch_wide,
+    push_bpf, push_build_id, push_cgroup, push_comm, push_inode, push_ksymbol, push_lost,
+    push_path, push_range, push_rights, push_switch, push_switch_wide, push_task,
 };
 use perf_base::endian::Dynamic;
 use perf_base::sys::{
@@ -58,7 +59,7 @@ fn has_flag(frame: &FlatFrame, bit: u32) -> bool
     requires { bit < 16 }
     ensures { result ≡ has_bit frame.now.misc bit }
 {
-    (frame.misc >> bit) % 2 == 1
+    has_bit(u64::from(frame.misc), bit)
 }
 
 // The thread whose name the line of a FORK has.
@@ -133,29 +134,15 @@ fn push_comm_in(text: &mut Vec<u8>, bytes: &[u8], frame: &FlatFrame) -> Result<(
     )
 }
 
-// Appends an EXIT.
-fn push_exit_in(text: &mut Vec<u8>, frame: &FlatFrame) -> Result<(), AllocError>
-    ensures { OnOk result (text.new.items ≡ text.old.items ++ records.exit_text
+// Appends an EXIT or a FORK, with its word.
+fn push_task_in(text: &mut Vec<u8>, word: &[u8], frame: &FlatFrame) -> Result<(), AllocError>
+    ensures { OnOk result (text.new.items ≡ text.old.items ++ (word.now ++ records.task_text
         (lines.short_number frame.now.numbers 0) (lines.short_number frame.now.numbers 2)
-        (lines.short_number frame.now.numbers 1) (lines.short_number frame.now.numbers 3)) }
+        (lines.short_number frame.now.numbers 1) (lines.short_number frame.now.numbers 3))) }
 {
-    push_exit(
+    push_task(
         text,
-        short_number(frame, 0),
-        short_number(frame, 2),
-        short_number(frame, 1),
-        short_number(frame, 3),
-    )
-}
-
-// Appends a FORK.
-fn push_fork_in(text: &mut Vec<u8>, frame: &FlatFrame) -> Result<(), AllocError>
-    ensures { OnOk result (text.new.items ≡ text.old.items ++ records.fork_text
-        (lines.short_number frame.now.numbers 0) (lines.short_number frame.now.numbers 2)
-        (lines.short_number frame.now.numbers 1) (lines.short_number frame.now.numbers 3)) }
-{
-    push_fork(
-        text,
+        word,
         short_number(frame, 0),
         short_number(frame, 2),
         short_number(frame, 1),
@@ -263,8 +250,8 @@ fn push_record_in(
         PERF_RECORD_MMAP => push_mmap_in(text, bytes, frame),
         PERF_RECORD_LOST => push_lost(text, number(frame, 1)),
         PERF_RECORD_COMM => push_comm_in(text, bytes, frame),
-        PERF_RECORD_EXIT => push_exit_in(text, frame),
-        PERF_RECORD_FORK => push_fork_in(text, frame),
+        PERF_RECORD_EXIT => push_task_in(text, b"EXIT", frame),
+        PERF_RECORD_FORK => push_task_in(text, b"FORK", frame),
         PERF_RECORD_MMAP2 => push_mmap2_in(text, bytes, frame),
         PERF_RECORD_SWITCH => push_switch(text, frame.misc),
         PERF_RECORD_SWITCH_CPU_WIDE => push_switch_wide(
