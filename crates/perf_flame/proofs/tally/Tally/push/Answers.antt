@@ -13,7 +13,7 @@ returns-in-None-clause-added c =
     let stack = c.args.stack.now in
     on_ok_weaker c.add.result
     (λ added.
-        let grown = added ∙ ap (λ r. add_count (folded_lines r) stack c.args.count) made.rest in
-        (λ i. add_lines (grown i) (map counted_line (made.entries i).items))
-        ∙ past (map counted_line own.entries.items) (folded_lines own.rest) stack c.args.count)
+    let grown = added ∙ ap (λ r. add_count (folded_lines r) stack c.args.count) made.rest in
+    (λ i. add_lines (grown i) (map counted_line (made.entries i).items))
+    ∙ past (map counted_line own.entries.items) (folded_lines own.rest) stack c.args.count)
     c.add.ensures.added
