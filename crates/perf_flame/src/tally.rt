@@ -111,6 +111,7 @@ impl Tally {
     }
 
     // Appends an entry, or adds to the rest.
+    #[inline(never)]
     fn push(&mut self, number: u64, stack: &[u8], count: u64) -> Result<(), AllocError>
         ensures added { OnOk result
             (tally_lines self.new ≡ add_count (tally_lines self.old) stack.now count) }
@@ -133,6 +134,8 @@ impl Tally {
     }
 
     // Makes more slots, if half of them are not enough.
+    #[cold]
+    #[inline(never)]
     fn make_slots(&mut self) -> Result<(), AllocError>
         ensures entries { self.new.entries ≡ self.old.entries }
         ensures rest { self.new.rest ≡ self.old.rest }

@@ -205,6 +205,8 @@ impl<'p> KeptFrames<'p> {
     }
 
     // Appends the text of a frame that is not kept yet, keeps it, and returns its number.
+    #[cold]
+    #[inline(never)]
     fn push_new(
         &mut self,
         stack: &mut Stack,
