@@ -9,12 +9,9 @@ ghost use Rattle.perf_buffers.specs.Prelude as prelude;
 
 use crate::cursor::{Content, ParseBufCursor};
 use crate::fill::append;
-use crate::parsebuf::{ParseBuf, ParseBufChunk};
+use crate::parsebuf::{ParseBuf, ParseBufChunk, UNHINTED_BYTES};
 use perf_base::{ErrorKind, Kept, ParseResult, ReadResult, Refusal};
 use std::alloc::Global;
-
-// The capacity allocated first if the buffer does not report how many bytes it has.
-const UNHINTED_ROOM: usize = 16384;
 
 // The next `len` bytes, if the first chunk has them all: borrowed if it lives as long as the input,
 // and otherwise copied.
@@ -122,7 +119,7 @@ fn capacity_for(has_hint: bool, len: usize) -> usize
     if has_hint {
         len
     } else {
-        len.min(UNHINTED_ROOM)
+        len.min(UNHINTED_BYTES)
     }
 }
 

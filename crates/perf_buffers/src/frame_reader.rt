@@ -9,7 +9,7 @@ ghost use Rattle.perf_buffers.specs.Prelude.{CanFail, NeedsNoMemory, makes_all_r
 
 use crate::cut::assemble;
 use crate::parsebuf::{ParseBuf, ParseBufChunk};
-use perf_base::{Endian, Kept, ReadResult};
+use perf_base::{Kept, ReadResult};
 
 /// Makes something of the bytes of a frame, and of a state of the caller.
 pub trait FrameReader<'p, S>: Drop {
@@ -28,6 +28,17 @@ pub trait FrameReader<'p, S>: Drop {
         requires { length (chunk_bytes bytes) ≡ len self }
         ensures { gives self (chunk_bytes bytes.entry) (chunk_is_borrowed bytes.entry)
             state.old result state.new };
+}
+
+/// Counts the frames that begin in the bytes of a chunk.
+pub trait FrameCount {
+    // the most that it counts
+    ghost most: { Self → ℕ };
+
+    /// How many frames begin in these bytes. Each has at least eight of them.
+    fn count(&self, bytes: &[u8]) -> usize
+        ensures most { result ≤ most self.now }
+        ensures shown { 8 * result ≤ length bytes.now };
 }
 
 // A frame as found in the next chunk.
@@ -103,20 +114,4 @@ pub(crate) fn read_assembled<'p, S, B: ParseBuf<'p>, F: FrameReader<'p, S>>(
             Err(refusal)
         }
     }
-}
-
-// How many frames begin in these bytes, each with a complete header, at most `most`.
-pub(crate) fn frames_in<E: Endian>(endian: &E, bytes: &[u8], most: usize) -> usize
-    ensures most { result ≤ most }
-    ensures shown { 8 * result ≤ length bytes.now }
-{
-    let mut rest = bytes;
-    for count in 0..most {
-        let size = match rest.first_chunk::<8>() {
-            Some(header) => endian.convert_u16([header[6], header[7]]) as usize,
-            None => return count,
-        };
-        rest = &rest[size.max(8).min(rest.len())..];
-    }
-    most
 }

@@ -9,16 +9,13 @@ ghost use Rattle.perf_buffers.specs.Cutting.{WholeNeedsNoMemory, RefusesShort, A
 use crate::cursor::ParseBufCursor;
 use crate::cut::{cut, says_too_few, shortage, skip};
 use crate::fill::fill;
-use crate::frame_reader::{Found, FrameReader, frames_in, read_assembled, read_in_place};
+use crate::frame_reader::{Found, FrameCount, FrameReader, read_assembled, read_in_place};
 use crate::input::Input;
 use crate::parsebuf::{ParseBuf, ParseBufChunk};
 use crate::rest::take_rest;
 use crate::zeros::take_zeros;
-use perf_base::{CowSlice, Endian, ErrorKind, Kept, ParseError, ReadResult, Refusal};
+use perf_base::{CowSlice, ErrorKind, Kept, ParseError, ReadResult, Refusal};
 use std::alloc::Global;
-
-// The size of a small frame in bytes.
-const SMALL_FRAME: usize = 16;
 
 /// A buffer, the error of its last fault, and space for a frame that no chunk contains in full.
 #[derive(Drop)]
@@ -85,34 +82,20 @@ impl<'p, B: ParseBuf<'p>> Outer<B> {
         Ok(Some(front))
     }
 
-    /// How many frames begin in the bytes of the next chunk, at most `most`: estimated as if all
-    /// frames were small, or counted, if that is wanted and the estimate is less than `most`.
-    /// Nothing is taken.
+    /// How many frames begin in the bytes of the next chunk. Nothing is taken.
     #[inline]
-    pub fn frames_shown<E: Endian>(
-        &mut self,
-        endian: &E,
-        most: usize,
-        is_exact: bool,
-    ) -> ReadResult<usize>
+    pub fn frames_shown<C: FrameCount>(&mut self, frames: &C) -> ReadResult<usize>
         ensures stays { BufferInvariant (B.source self.old.buf) (kind_if_refused (kinds result))
             (B.source self.new.buf) }
         ensures same { IsTrue (B.source self.old.buf).told →
             (B.source self.new.buf).left ≡ (B.source self.old.buf).left }
-        ensures most { IfOk result (λ count. count ≤ most) }
+        ensures most { IfOk result (λ count. count ≤ C.most frames.now) }
         ensures shown { IfOk result (λ count. IsTrue (B.source self.old.buf).told →
             8 * count ≤ length (B.source self.old.buf).left) }
         ensures err { IfErr result (λ e. Refuses (B.source self.old.buf) (refusal_kind e)) }
     {
         match self.buf.chunk() {
-            Ok(chunk) => {
-                let bytes = chunk.as_bytes();
-                let small = bytes.len() / SMALL_FRAME;
-                if is_exact && small < most {
-                    return Ok(frames_in(endian, bytes, most));
-                }
-                Ok(most.min(small))
-            }
+            Ok(chunk) => Ok(frames.count(chunk.as_bytes())),
             Err(error) => Err(self.cause.keep(error)),
         }
     }

@@ -10,6 +10,9 @@ ghost use Rattle.perf_buffers.specs.Prelude.{RefusesReader, reader_remaining, re
 use perf_base::{ErrorKind, ParseError, ParseResult};
 use std::io::{self, BufRead, BufReader, Read};
 
+/// How many bytes a buffer is assumed to have if its hint does not report it.
+pub const UNHINTED_BYTES: usize = 16384;
+
 /// The next bytes of a buffer.
 #[derive(Copy, Clone, Debug)]
 pub enum ParseBufChunk<'tmp, 'p> {

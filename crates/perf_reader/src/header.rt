@@ -10,7 +10,7 @@
 //! is present counts.
 #![tactic(auto, using(crate::proofs::Calls::chain))]
 
-ghost use Rattle.std.specs.Prelude.{◌≡◌, ◌++◌};
+ghost use Rattle.std.specs.Prelude.{◌≡◌, ◌≤◌, ◌*◌, ◌++◌, length};
 ghost use Rattle.perf_base.specs.Header.{header, header_of};
 ghost use Rattle.perf_reader.specs.Headers.{stop_kind};
 ghost use Rattle.perf_reader.specs.Prelude.{ReadsPlain, refusal_kind};
@@ -19,7 +19,11 @@ use crate::read::{HasTransition, ReadFrom};
 use crate::reader::Reader;
 use perf_base::sys::perf_event_header;
 use perf_base::{Endian, ErrorKind, ReadResult, Refusal};
+use perf_buffers::frame_reader::FrameCount;
 use perf_buffers::input::Input;
+
+// The size of a small frame in bytes.
+const SMALL_FRAME: usize = 16;
 
 /// Why a run stops where its next frame would begin.
 #[derive(Copy, Clone)]
@@ -88,5 +92,45 @@ impl<'p, I: Input<'p>> ReadFrom<'p, I> for perf_event_header {
             return reader.read_header();
         }
         reader.read_header_by_number()
+    }
+}
+
+// How many frames begin in these bytes, each with a complete header, at most `most`.
+#[tactic(auto)]
+fn frames_in<E: Endian>(endian: &E, bytes: &[u8], most: usize) -> usize
+    ensures most { result ≤ most }
+    ensures shown { 8 * result ≤ length bytes.now }
+{
+    let mut rest = bytes;
+    for count in 0..most {
+        let size = match rest.first_chunk::<8>() {
+            Some(header) => header_in(endian, *header).size as usize,
+            None => return count,
+        };
+        rest = &rest[size.max(8).min(rest.len())..];
+    }
+    most
+}
+
+// The frames that begin in a chunk, at most `limit`: estimated as if all frames were small, or
+// counted, if that is wanted and the estimate is less than the limit.
+#[derive(Drop)]
+pub(crate) struct ShownFrames<'c, E> {
+    pub(crate) endian: &'c E,
+    pub(crate) limit: usize,
+    pub(crate) is_exact: bool,
+}
+
+impl<E: Endian> FrameCount for ShownFrames<'_, E> {
+    ghost most = { λ frames. frames.limit };
+
+    #[inline]
+    #[tactic(auto)]
+    fn count(&self, bytes: &[u8]) -> usize {
+        let small = bytes.len() / SMALL_FRAME;
+        if self.is_exact && small < self.limit {
+            return frames_in(self.endian, bytes, self.limit);
+        }
+        self.limit.min(small)
     }
 }

@@ -26,7 +26,7 @@ ghost use Rattle.perf_reader.specs.Prelude.{padding, rest, PassesOver};
 
 use crate::blocks::{BLOCK_LEN, BLOCK_SIZE, NUMBER_SIZE, convert};
 use crate::frame_reader::{Configured, ConfiguredFrameReader};
-use crate::header::{Stop, header_from, header_in, stop_at};
+use crate::header::{ShownFrames, Stop, header_from, header_in, stop_at};
 use crate::names::trimmed_len;
 use crate::read::ReadFrom;
 use perf_base::sys::perf_event_header;
@@ -34,11 +34,8 @@ use perf_base::{CowSlice, Endian, ParseConfig, ParseError, ReadCounter, ReadResu
 use perf_buffers::cursor::ParseBufCursor;
 use perf_buffers::input::{Input, take_array};
 use perf_buffers::outer::Outer;
-use perf_buffers::parsebuf::ParseBuf;
+use perf_buffers::parsebuf::{ParseBuf, UNHINTED_BYTES};
 use std::alloc::Global;
-
-// How many bytes an input is assumed to have if it does not report it.
-const UNHINTED_BYTES: usize = 16384;
 
 /// Reads values from an input, under a configuration. Bytes are taken, and reads counted, by its
 /// calls alone.
@@ -961,7 +958,11 @@ impl<'p, B: ParseBuf<'p>, E: Endian> Reader<Outer<B>, E> {
         ensures err { IfErr result
             (λ e. Refuses (B.source (buffer_of self.old)) (refusal_kind e)) }
     {
-        self.input
-            .frames_shown(self.config.endian(), most, is_exact)
+        let frames = ShownFrames {
+            endian: self.config.endian(),
+            limit: most,
+            is_exact,
+        };
+        self.input.frames_shown(&frames)
     }
 }
