@@ -24,7 +24,7 @@ ghost use Rattle.perf_types.specs.MmapDetail as detail_of;
 ghost use Rattle.perf_types.specs.Namespaces.{namespaces};
 ghost use Rattle.perf_types.specs.Read.{read};
 ghost use Rattle.perf_types.specs.SwitchCpuWide.{switch_cpu_wide};
-ghost use Rattle.perf_types.specs.TextPoke.{poked_len, text_poke};
+ghost use Rattle.perf_types.specs.TextPoke.{text_poke};
 ghost use Rattle.perf_words.specs.Bits.{has_bit};
 ghost use Rattle.perf_words.specs.SetBits.{read_format_bits};
 
@@ -36,6 +36,7 @@ use perf_base::{Endian, ParseConfig, Refusal};
 use perf_records::record_type::RecordType;
 use perf_types::mmap2::has_build_id;
 use perf_types::switch_cpu_wide::is_switch_out;
+use perf_types::text_poke::poked_len;
 use perf_words::ReadFormat;
 
 // Writes the contents of the record of a header, by its type and its `misc`.
@@ -414,15 +415,6 @@ fn put_cgroup<E: Endian>(order: &E, body: &[u8], frame: &mut FlatFrame) -> Optio
     let id = cursor.read_u64(order);
     let path = cursor.name();
     cursor.finish(&[id], &[path], frame)
-}
-
-// How many bytes follow both lengths of a TEXT_POKE record.
-#[inline]
-fn poked_len(len: u64) -> u64
-    requires { len < 2 ^ 32 }
-    ensures { result ≡ poked_len len }
-{
-    len + (12 - len % 8) % 8
 }
 
 // Writes the contents of a TEXT_POKE record.

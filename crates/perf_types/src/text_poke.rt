@@ -59,10 +59,10 @@ impl<'a> TextPoke<'a> {
     }
 }
 
-// How many bytes follow the lengths, so that the record ends at a multiple of eight.
+/// How many bytes follow both lengths, so that the record ends at a multiple of eight.
 #[inline]
-fn poked_len(both: usize) -> usize
-    requires { both < 2 ^ 17 }
+pub fn poked_len(both: u64) -> u64
+    requires { both < 2 ^ 32 }
     ensures exact { result ≡ poked_len both }
     ensures enough { both ≤ result }
 {
@@ -79,7 +79,8 @@ impl<'p, I: Input<'p>> ReadFrom<'p, I> for TextPoke<'p> {
         let addr = reader.read_u64()?;
         let old_len = reader.read_u16()? as usize;
         let new_len = reader.read_u16()? as usize;
-        let run = reader.read_bytes(poked_len(old_len + new_len))?;
+        let len = poked_len((old_len + new_len) as u64);
+        let run = reader.read_bytes(len as usize)?;
         match run.split_at(reader.alloc(), old_len) {
             Ok((old_bytes, mut new_bytes)) => {
                 new_bytes.truncate(new_len);

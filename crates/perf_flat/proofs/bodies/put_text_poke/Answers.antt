@@ -25,7 +25,7 @@ returns g c = λ settings.
     let a = new_at.new.self in
     let run = c.pass-run in
     let passed : Passed c.poked_len.result a run.result run.new.self = record { bytes = run.ensures.bytes; short = run.ensures.short; fits = run.ensures.fits } in
-    let last = passed_bytes order n a run.new.self run.result a.within (subst (λ m. Passed m a run.result run.new.self) c.poked_len.ensures passed) in
+    let last = passed_bytes order n a run.new.self run.result a.within (subst (λ m. Passed m a run.result run.new.self) c.poked_len.ensures.exact passed) in
     let all = last.contents in
     c.finish.ensures settings order (map_parts text_poke_is text_poke) (text_poke_is (record { addr = addr_at.result; old_bytes = take old all; new_bytes = take new (drop old all) })) c.args.body.now (record {
       start = start.result;
