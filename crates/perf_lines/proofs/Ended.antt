@@ -8,8 +8,8 @@ use Rattle.perf_records.specs.Frames.{drop_frames}
 use Rattle.perf_records.specs.Answers.{answers}
 use Rattle.perf_reader.specs.Reading.{is_external}
 use Rattle.perf_parser.specs.Runs.{EndsWith, end_refusal}
-use Rattle.perf_parser.specs.declared.runs.RunEnd.{RunEnd}
-use Rattle.perf_parser.specs.declared.runs.RunEnd.TheVariants as end
+use Rattle.perf_parser.specs.declared.run.RunEnd.{RunEnd}
+use Rattle.perf_parser.specs.declared.run.RunEnd.TheVariants as end
 use Rattle.perf_lines.specs.declared.outcome.Outcome.{Outcome}
 use Rattle.perf_lines.specs.Outcomes.{ending_line, ending_outcome}
 use Rattle.perf_lines.proofs.Progress.{Listed, all_listed, ends_alike}

@@ -21,7 +21,7 @@ use Rattle.perf_records.proofs.Headers.{header_alone, answer_alone, reads_alone}
 use Rattle.perf_parser.specs.Runs.{Pairs, seen_answer, seen_answers, listed_reads, CountsMore}
 use Rattle.perf_parser.specs.Runs.{IsBorrowedAnswer, AllBorrowed, MovesWithinFrame, EndsWith, EndsBetween}
 use Rattle.perf_parser.specs.Steps.{StopsAt, StopsBetween, IsEndOf, IsAfter, StepKind, HasTaken, ListsFirst}
-use Rattle.perf_parser.specs.declared.runs.RunEnd.{RunEnd}
+use Rattle.perf_parser.specs.declared.run.RunEnd.{RunEnd}
 use Rattle.perf_reader.specs.declared.header.Stop.{Stop}
 use Rattle.perf_reader.specs.declared.header.Stop.TheVariants as stop
 use Rattle.perf_parser.proofs.RunEnds.{end_kind}

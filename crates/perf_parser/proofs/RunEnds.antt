@@ -29,7 +29,7 @@ use Rattle.perf_parser.specs.Runs.{Pairs, seen_answer, refused_count, listed_rea
 use Rattle.perf_parser.specs.Steps.{StopsAt, IsListed}
 use Rattle.perf_parser.specs.Runs.{one_if_ended, end_refusal}
 use Rattle.perf_parser.specs.Steps.{stop_kind, stopped_by, StopsBetween, IsEndOf}
-use Rattle.perf_parser.specs.declared.runs.RunEnd.{RunEnd}
+use Rattle.perf_parser.specs.declared.run.RunEnd.{RunEnd}
 use Rattle.perf_reader.specs.declared.header.Stop.{Stop}
 use Rattle.perf_reader.specs.declared.header.Stop.TheVariants as stop
 

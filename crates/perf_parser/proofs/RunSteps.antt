@@ -12,8 +12,8 @@ use Rattle.perf_reader.specs.declared.header.Stop.{Stop}
 use Rattle.perf_records.specs.Frames.{frame_length, first_frames}
 use Rattle.perf_parser.specs.FrameRuns.{went_on}
 use Rattle.perf_parser.specs.Steps.{StepKind, HasTaken, TakesNext, TakesStep, TakesSteps, IsEndOf, reads_of_first}
-use Rattle.perf_parser.specs.declared.runs.RunEnd.{RunEnd}
-use Rattle.perf_parser.specs.declared.runs.RunEnd.TheVariants as end
+use Rattle.perf_parser.specs.declared.run.RunEnd.{RunEnd}
+use Rattle.perf_parser.specs.declared.run.RunEnd.TheVariants as end
 use Rattle.perf_parser.proofs.RunEnds.{run_none, run_ends, run_limit, run_limit_back, end_kind}
 use Rattle.perf_parser.proofs.Lists.{one_frame_more, after_on, ends_with, ends_between, counts_more}
 

@@ -7,7 +7,7 @@ use Rattle.perf_reader.specs.ReaderState.{ReaderState}
 use Rattle.perf_records.specs.Frames.{first_frames, drop_frames}
 use Rattle.perf_records.specs.Sights.{Sight, sight_in}
 use Rattle.perf_parser.specs.Runs.{EndsWith, CountsMore, end_refusal, one_if_ended}
-use Rattle.perf_parser.specs.declared.runs.RunEnd.{RunEnd}
+use Rattle.perf_parser.specs.declared.run.RunEnd.{RunEnd}
 
 -- A handler was handed these frames, one after the other: what is at each, by its bytes, which live
 -- as long as the input if the buffer is whole. It went on after each except perhaps the last, after

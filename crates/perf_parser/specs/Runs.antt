@@ -21,9 +21,9 @@ use Rattle.perf_records.specs.Frames.{first_frames, frames, drop_frames}
 use Rattle.perf_records.specs.Frames.{stream_end, done, cut_header}
 use Rattle.perf_records.specs.Records.{RecordValue, record_value, IsBorrowed}
 use Rattle.perf_records.specs.declared.record.Record.{Record}
-use Rattle.perf_parser.specs.declared.runs.Run.{Run}
-use Rattle.perf_parser.specs.declared.runs.RunEnd.{RunEnd}
-use Rattle.perf_parser.specs.declared.runs.RunEnd.TheVariants as end
+use Rattle.perf_parser.specs.declared.run.Run.{Run}
+use Rattle.perf_parser.specs.declared.run.RunEnd.{RunEnd}
+use Rattle.perf_parser.specs.declared.run.RunEnd.TheVariants as end
 
 -- ---- what it lists
 

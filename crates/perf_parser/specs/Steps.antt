@@ -27,8 +27,8 @@ use Rattle.perf_records.specs.Answers.{answer_of_frame, LeavesAllOrRest}
 use Rattle.perf_records.specs.Answers.{ReadsFrameAfter, length_after}
 use Rattle.perf_records.specs.Frames.{frame_length, first_frames, drop_frames}
 use Rattle.perf_records.specs.declared.record.Record.{Record}
-use Rattle.perf_parser.specs.declared.runs.RunEnd.{RunEnd}
-use Rattle.perf_parser.specs.declared.runs.RunEnd.TheVariants as end
+use Rattle.perf_parser.specs.declared.run.RunEnd.{RunEnd}
+use Rattle.perf_parser.specs.declared.run.RunEnd.TheVariants as end
 pub use Rattle.perf_reader.specs.Headers.{ReadsHeader, StopsAt, stop_kind, stop_kinds}
 use Rattle.perf_parser.specs.FrameRuns.{EndsFrames, CountsRunReads, went_on, frames_refusal, one_if_run_ended}
 use Rattle.perf_parser.specs.Runs.{Pairs, RunInvariant, seen_answers, IsBorrowedAnswer, AllBorrowed}

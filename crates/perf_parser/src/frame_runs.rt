@@ -8,7 +8,7 @@ ghost use Rattle.perf_reader.specs.Prelude as prelude;
 ghost use Rattle.perf_records.specs.Frames.{first_frames};
 
 use crate::parser::Parser;
-use crate::runs::RunEnd;
+use crate::run::FrameRun;
 use crate::steps::{Step, run_steps};
 use perf_base::Endian;
 use perf_buffers::outer::Outer;
@@ -17,15 +17,6 @@ use perf_reader::header::Stop;
 use perf_reader::reader::Reader;
 use perf_records::frame_after::hand_after;
 use perf_records::frame_handler::FrameHandler;
-
-/// How many frames a run handed out, and how it ended.
-#[derive(Debug, Drop)]
-pub struct FrameRun {
-    /// How many whole frames and `BadFrame`s the handler was handed.
-    pub count: usize,
-    /// How the run ended, or `None` if its handler ended it.
-    pub end: Option<RunEnd>,
-}
 
 // Hands the next frame to a handler.
 struct Handing;

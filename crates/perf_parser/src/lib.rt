@@ -8,8 +8,10 @@ mod frame_runs;
 mod frames;
 pub mod parse;
 mod parser;
+mod run;
 mod runs;
 mod steps;
 
-pub use crate::frame_runs::{FrameRun, each_frame};
-pub use crate::runs::{Run, RunEnd, read_records};
+pub use crate::frame_runs::each_frame;
+pub use crate::run::{FrameRun, Run, RunEnd};
+pub use crate::runs::read_records;

@@ -10,6 +10,7 @@ ghost use Rattle.perf_parser.specs.Steps as steps;
 ghost use Rattle.perf_reader.specs.Prelude as prelude;
 
 use crate::parser::Parser;
+use crate::run::{Run, RunEnd};
 use crate::steps::{Step, run_steps};
 use perf_base::sys::{PERF_RECORD_SAMPLE, perf_event_header};
 use perf_base::{Endian, ParseError, ParseResult, ReadCounter, ReadResult, Refusal};
@@ -28,29 +29,6 @@ const MOST_RESERVED: usize = 256;
 
 // The header of each frame, and its record or why there is none.
 type Frames<'p> = Vec<(perf_event_header, ParseResult<Record<'p>>)>;
-
-/// The frames that a run read, each with its header and its answer, and how the run ended.
-#[derive(Debug, Drop)]
-pub struct Run<'p> {
-    /// The header of each frame, and its record or why there is none.
-    pub frames: Vec<(perf_event_header, ParseResult<Record<'p>>)>,
-    /// How the run ended.
-    pub end: RunEnd,
-}
-
-/// How a run ended.
-#[derive(Debug, Drop)]
-pub enum RunEnd {
-    /// It listed as many frames as it was asked for.
-    Limit,
-    /// Nothing was left.
-    Done,
-    /// Fewer bytes were left than a header has.
-    CutHeader,
-    /// The buffer failed, or an allocation did. A prefix of the frame that was being read may have
-    /// been taken; over a slice, where only an allocation can fail, none or all of it.
-    Fault(ParseError),
-}
 
 // Lists a frame that has too few bytes, in capacity that was reserved. It is not inlined, so that
 // the place for its answer, which is large, is cleared once.

@@ -4,8 +4,7 @@ ghost use Rattle.std.specs.Prelude.{◌≡◌, true};
 ghost use Rattle.perf_parser.specs.Steps as steps;
 ghost use Rattle.perf_reader.specs.Prelude as prelude;
 
-use crate::frame_runs::FrameRun;
-use crate::runs::RunEnd;
+use crate::run::{FrameRun, RunEnd};
 use perf_base::Endian;
 use perf_buffers::outer::Outer;
 use perf_buffers::parsebuf::ParseBuf;

@@ -44,7 +44,7 @@ use Rattle.perf_records.proofs.Handovers.{finished}
 use Rattle.perf_records.proofs.Headers.{answer_whole}
 use Rattle.perf_parser.specs.FrameRuns.{Handed, HandsFirst, EndsFrames, frames_refusal}
 use Rattle.perf_parser.specs.Runs.{EndsWith, MovesWithinFrame, RunInvariant, end_refusal}
-use Rattle.perf_parser.specs.declared.runs.RunEnd.{RunEnd}
+use Rattle.perf_parser.specs.declared.run.RunEnd.{RunEnd}
 use Rattle.perf_parser.proofs.FrameHandovers.{moved_by}
 use Rattle.perf_parser.proofs.Lists.{AreThere, there_fits, there_next, after_on, frames_fit}
 use Rattle.perf_reports.specs.Counting.{modulo_word, frame_sum, counts_of, plus, sight_header, sight_answer, counted_sight, IsRefused, RanOut, EndsBy, CountsSight, CountsRun, RefusesSight, SumsAnswer, Adds, record_sum, sample_sum, bad_kinds, attribute_in}

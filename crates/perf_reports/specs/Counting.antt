@@ -24,8 +24,8 @@ use Rattle.perf_records.specs.Gives.{Event}
 use Rattle.perf_records.specs.declared.frame_handler.BadFrame.{BadFrame}
 use Rattle.perf_records.specs.Sights.{Sight, whole, bad}
 use Rattle.perf_parser.specs.Runs.{EndsWith}
-use Rattle.perf_parser.specs.declared.runs.RunEnd.{RunEnd}
-use Rattle.perf_parser.specs.declared.runs.RunEnd.TheVariants.{Fault}
+use Rattle.perf_parser.specs.declared.run.RunEnd.{RunEnd}
+use Rattle.perf_parser.specs.declared.run.RunEnd.TheVariants.{Fault}
 use Rattle.perf_records.specs.Records.{RecordValue, mmap_is, lost_is, comm_is, exit_is, fork_is}
 use Rattle.perf_records.specs.Records.{mmap2_is, lost_samples_is, sample_is}
 use Rattle.perf_sample_types.specs.SampleGetters.{Getters, getters_of}

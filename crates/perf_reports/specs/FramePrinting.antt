@@ -19,7 +19,7 @@ use Rattle.perf_records.specs.Records.{RecordValue}
 use Rattle.perf_records.specs.Sights.{Sight}
 use Rattle.perf_records.specs.declared.frame.Frame.{Frame}
 use Rattle.perf_parser.specs.Runs.{EndsWith}
-use Rattle.perf_parser.specs.declared.runs.RunEnd.{RunEnd}
+use Rattle.perf_parser.specs.declared.run.RunEnd.{RunEnd}
 use Rattle.perf_reports.specs.Counting.{attribute_in, sight_header, sight_answer}
 use Rattle.perf_reports.specs.Printing.{printed_answers, error_lines, Grows, GrowsWithin, is_memory}
 use Rattle.perf_reports.specs.declared.frame_printer.FramePrinter.{FramePrinter}

@@ -9,8 +9,8 @@ use Rattle.perf_base.specs.Errors.{error_text, kind_of, of_layout}
 use Rattle.perf_base.specs.declared.sys.perf_event_header.{perf_event_header}
 use Rattle.perf_base.specs.declared.error.ErrorKind.{ErrorKind}
 use Rattle.perf_base.specs.declared.error.ParseError.{ParseError}
-use Rattle.perf_parser.specs.declared.runs.RunEnd.{RunEnd}
-use Rattle.perf_parser.specs.declared.runs.RunEnd.TheVariants as end
+use Rattle.perf_parser.specs.declared.run.RunEnd.{RunEnd}
+use Rattle.perf_parser.specs.declared.run.RunEnd.TheVariants as end
 use Rattle.perf_records.specs.Records.{RecordValue, record_value, sample_is, sample_value}
 use Rattle.perf_reports.specs.declared.printing.Found.{Found}
 use Rattle.perf_reports.specs.declared.printing.Found.TheVariants as found
