@@ -12,7 +12,7 @@ use crate::events::text_of_events;
 use crate::header::text_of_header;
 use perf_file::{OpenError, Recording};
 use perf_lines::outcome::Outcome;
-use perf_lines::output::write_whole;
+use perf_lines::output::write_and_flush;
 use std::alloc::{AllocError, Global};
 use std::io::Write;
 
@@ -101,7 +101,7 @@ fn write_text<W: Write>(writer: &mut W, text: &String, refused: bool) -> Outcome
     ensures { shown.Writes result refused (string_bytes text.now)
         (W.contents writer.old) (W.contents writer.new) }
 {
-    if !write_whole(writer, text.as_bytes()) {
+    if !write_and_flush(writer, text.as_bytes()) {
         Outcome::Stopped
     } else if refused {
         Outcome::Refused

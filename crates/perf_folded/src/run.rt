@@ -10,7 +10,7 @@ use crate::form::{Form, text_of};
 use crate::texts::read_texts;
 use perf_flame::folded::Folded;
 use perf_lines::outcome::Outcome;
-use perf_lines::output::write_whole;
+use perf_lines::output::write_and_flush;
 use std::alloc::Global;
 use std::io::Write;
 
@@ -47,7 +47,7 @@ pub fn write_folded<W: Write>(
 fn write_text<W: Write>(writer: &mut W, text: &[u8]) -> Outcome
     ensures { written.Writes result text.now (W.contents writer.old) (W.contents writer.new) }
 {
-    if write_whole(writer, text) {
+    if write_and_flush(writer, text) {
         Outcome::Clean
     } else {
         Outcome::Stopped

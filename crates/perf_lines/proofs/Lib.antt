@@ -1,5 +1,4 @@
 pub mod Lines
-pub mod Known
 pub mod Progress
 pub mod Endings
 pub mod Ended

@@ -9,7 +9,7 @@ ghost use Rattle.perf_lines.specs.Text as lines;
 
 use crate::line::{push_attr_refused, push_end, push_fault, push_lines};
 use crate::outcome::Outcome;
-use crate::output::write_whole;
+use crate::output::write_and_flush;
 use perf_event_data::endian::{Endian, Native};
 use perf_event_data::parse::{ErrorKind, ParseBuf, ParseConfig, ParseResult, Parser};
 use perf_event_data::sys::perf_event_header;
@@ -46,7 +46,7 @@ pub fn run<R: Read + Drop, W: Write, E: Endian>(
     let Ok((text, outcome)) = text_of(alloc, reader, order, limit, with_attr, piece) else {
         return Outcome::Stopped;
     };
-    if write_whole(writer, text.as_bytes()) {
+    if write_and_flush(writer, text.as_bytes()) {
         outcome
     } else {
         Outcome::Stopped

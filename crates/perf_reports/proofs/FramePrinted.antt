@@ -26,7 +26,7 @@ use Rattle.perf_records.specs.Frames.{first_frames}
 use Rattle.perf_records.specs.Records.{RecordValue}
 use Rattle.perf_records.specs.Sights.{Sight, sight_in}
 use Rattle.perf_parser.specs.FrameRuns.{Handed, HandsFirst, went_on}
-use Rattle.perf_parser.specs.declared.runs.RunEnd.{RunEnd}
+use Rattle.perf_parser.specs.declared.run.RunEnd.{RunEnd}
 use Rattle.perf_reader.specs.ReaderState.{ReaderState}
 use Rattle.perf_reports.specs.FramePrinting.{Answered, frame_answer, by_kinds, TellsErrors, all_clean, Prints, StopsPrinting, PrintsAnswer, PrintsSight, PrintsFirst, answers_left}
 use Rattle.perf_reports.specs.Printing.{text_of_record, printed_answer, printed_answers, error_line, error_lines, Grows, GrowsWithin, is_memory}
@@ -34,7 +34,8 @@ use Rattle.perf_reports.specs.declared.frame_printer.FramePrinter.{FramePrinter}
 use Rattle.perf_reports.specs.declared.printing.Report.{Report}
 use Rattle.perf_reports.specs.declared.printing.Stopped.{Stopped}
 use Rattle.perf_reports.proofs.Counted.{pair_of, frame_pair, Headed, frames_headed, first_answers}
-use Rattle.perf_reports.proofs.Printed.{grown, sent, none_sent, flushed, appends_more, appends_none, within, longer, within_more, none_within, whole_within}
+use Rattle.perf_reports.proofs.Printed.{grown, sent, none_sent, flushed, within, longer, within_more, none_within, whole_within}
+use Rattle.perf_text.proofs.Written.{appends_more, appends_nothing}
 
 -- ---- errors
 
@@ -42,7 +43,7 @@ abbrev Told : Type 0
 Told = perf_event_header × Result RecordValue ParseError
 
 tells_none : (a : Option (List ℕ)) → TellsErrors a a []
-tells_none a = ([], refl, appends_none a)
+tells_none a = ([], refl, appends_nothing a)
 
 tells_more : (a b c : Option (List ℕ)) (xs ys : List Answered) → TellsErrors a b xs → TellsErrors b c ys → TellsErrors a c (xs ++ ys)
 tells_more a b c xs ys p q = (
@@ -52,7 +53,7 @@ tells_more a b c xs ys p q = (
 )
 
 tells_ok : (a : Option (List ℕ)) (h : perf_event_header) (v : RecordValue) → TellsErrors a a ((h, Ok v) ∷ [])
-tells_ok a h v = ((h, Ok v) ∷ [], refl, appends_none a)
+tells_ok a h v = ((h, Ok v) ∷ [], refl, appends_nothing a)
 
 pub tells_error : (a b : Option (List ℕ)) (h : perf_event_header) (e : ParseError) → Appends a b (error_text e ++ codes "\n") → TellsErrors a b ((h, Err (kind_of e)) ∷ [])
 tells_error a b h e p = ((h, Err e) ∷ [], refl, subst (λ s. Appends a b s) (sym (append-nil (error_text e ++ codes "\n"))) p)

@@ -4,6 +4,7 @@ use Rattle.std.specs.Io.KnownBytes.{Appends, Keeps}
 use Rattle.std.proofs.lemmas.List.{take-append-drop}
 use lib.Seq.{drop_at}
 use Rattle.perf_reports.specs.Printing.{Grows, GrowsWithin}
+use Rattle.perf_text.proofs.Written.{appends_more, appends_nothing}
 
 pub grown : (a b c : Option (List ℕ)) (waited between waits first second : List ℕ) → Grows a b waited between first → Grows b c between waits second → Grows a c waited waits (first ++ second)
 grown None b c waited between waits first second p q = tt
@@ -29,24 +30,6 @@ flushed None b c waited waits text p q = tt
 flushed (Some xs) None c waited waits text p q = absurd p
 flushed (Some xs) (Some ys) None waited waits text p q = absurd q
 flushed (Some xs) (Some ys) (Some zs) waited waits text p q = q ∙ p
-
--- ---- one write after another
-
-pub appends_more : (a b c : Option (List ℕ)) (first second : List ℕ) → Appends a b first → Appends b c second → Appends a c (first ++ second)
-appends_more None b c first second p q = tt
-appends_more (Some xs) None c first second p q = absurd p
-appends_more (Some xs) (Some ys) None first second p q = absurd q
-appends_more (Some xs) (Some ys) (Some zs) first second p q = q ∙ ap (λ s. s ++ second) p ∙ append_assoc xs first second
-
-pub appends_kept : (a b c : Option (List ℕ)) (text : List ℕ) → Appends a b text → Keeps b c → Appends a c text
-appends_kept None b c text p q = tt
-appends_kept (Some xs) None c text p q = absurd p
-appends_kept (Some xs) (Some ys) None text p q = absurd q
-appends_kept (Some xs) (Some ys) (Some zs) text p q = q ∙ p
-
-pub appends_none : (a : Option (List ℕ)) → Appends a a []
-appends_none None = tt
-appends_none (Some xs) = sym (append-nil xs)
 
 -- ---- a part of what was to be written
 
@@ -77,7 +60,7 @@ within_more (Some xs) (Some ys) (Some zs) waited between first second (v, k, d, 
 
 -- nothing of it was written
 pub none_within : (a : Option (List ℕ)) (text : List ℕ) → GrowsWithin a a text
-none_within a text = ([], text, refl, appends_none a)
+none_within a text = ([], text, refl, appends_nothing a)
 
 -- all of the first, and none of the second
 pub first_within : (a b : Option (List ℕ)) (first second : List ℕ) → Appends a b first → GrowsWithin a b (first ++ second)

@@ -6,8 +6,8 @@ use Rattle.std.specs.Io.KnownBytes.{Appends}
 use Rattle.perf_base.specs.Configuration.{Configuration}
 use Rattle.perf_base.specs.Header.{header_of}
 use Rattle.perf_base.specs.Order.{Order}
-use Rattle.perf_parser.specs.declared.runs.RunEnd.{RunEnd}
-use Rattle.perf_parser.specs.declared.runs.RunEnd.TheVariants as end
+use Rattle.perf_parser.specs.declared.run.RunEnd.{RunEnd}
+use Rattle.perf_parser.specs.declared.run.RunEnd.TheVariants as end
 use Rattle.perf_reader.specs.ReaderState.{ReaderState}
 use Rattle.perf_records.specs.Answers.{answers, answer_of_frame}
 use Rattle.perf_records.specs.Frames.{frames, drop_frames, stream_end}
@@ -16,7 +16,8 @@ use Rattle.perf_reports.specs.Printing.{printed_answers, Grows, GrowsWithin}
 use Rattle.perf_reports.specs.declared.frame_printer.FramePrinter.{FramePrinter}
 use Rattle.perf_records.proofs.FramesAfter.{frames_after, after_more, answers_after, end_after}
 use Rattle.perf_reports.proofs.FramePrinted.{prints_none, prints_more, lines_append, waiting}
-use Rattle.perf_reports.proofs.Printed.{flushed, appends_none, longer, whole_within, within_more}
+use Rattle.perf_reports.proofs.Printed.{flushed, longer, whole_within, within_more}
+use Rattle.perf_text.proofs.Written.{appends_nothing}
 
 -- there are as many answers as frames
 count_answers : (c : Configuration) (o : Order) (bytes : List ℕ) → length (answers c o bytes) ≡ length (frames o bytes)
@@ -90,7 +91,7 @@ module _ {W E : Type 0} (out : W → Option (List ℕ)) (err : E → Option (Lis
       let count : length (frames old.order (drop_frames old.order n old.source.left)) ≡ length (frames old.order old.source.left) - n = ap length (frames_after old.order n old.source.left fits) ∙ length-drop n (frames old.order old.source.left) in
       let whole : take (n + k) all ≡ all = take_all (n + k) all (omega (arith, rest, count, fits, count_answers old.settings old.order old.source.left)) in
       let p : Prints out err was all now = subst (λ (xs : List Answered). Prints out err was xs now) whole (has_more was mid now old state n left end.Done limit settings order h r none) in
-      let written : Appends (out now.output) (out now.output) (waiting out err now) = subst (λ s. Appends (out now.output) (out now.output) s) (sym none) (appends_none (out now.output)) in
+      let written : Appends (out now.output) (out now.output) (waiting out err now) = subst (λ s. Appends (out now.output) (out now.output) s) (sym none) (appends_nothing (out now.output)) in
       record {
         lines = flushed (out was.output) (out now.output) (out now.output) (waiting out err was) (waiting out err now) (printed_answers was.report all) p.grown written;
         told = p.told;

@@ -17,6 +17,7 @@ use core::mem::replace_with;
 use perf_event_data::endian::{Endian, Little};
 use perf_event_data::parse::{ParseBuf, ParseConfig, ParseError, Parser};
 use perf_event_data::{Record, RunEnd, Sample, each_frame};
+use perf_text::output::write_whole;
 use std::alloc::{AllocError, Global};
 use std::error::Error;
 use std::io::{BufReader, Read, Write};
@@ -168,7 +169,7 @@ impl Lines {
         }
         self.send(output)?;
         if self.gathered.push_str(self.next.as_str()).is_err() {
-            write_whole(output, self.next.as_bytes())?;
+            write_whole(output, self.next.as_bytes(), true)?;
         }
         Ok(())
     }
@@ -213,7 +214,7 @@ impl Lines {
             (take n (string_bytes self.old.gathered)) }
         ensures failed { IfErr result (λ stopped. is_memory stopped ≡ false) }
     {
-        write_whole(output, self.gathered.as_bytes())?;
+        write_whole(output, self.gathered.as_bytes(), true)?;
         self.gathered.clear();
         Ok(())
     }
@@ -377,26 +378,4 @@ fn goes_on(end: RunEnd) -> Result<bool>
         RunEnd::CutHeader => bail!("the input ends inside a header"),
         RunEnd::Fault(error) => Err(error.into()),
     }
-}
-
-// Writes all bytes. If that fails, a prefix of them was written.
-fn write_whole<W: Write>(output: &mut W, bytes: &[u8]) -> io::Result<()>
-    ensures whole { OnOk result (Appends (W.contents output.old) (W.contents output.new)
-        bytes.now) }
-    ensures part { (n : ℕ) × Appends (W.contents output.old) (W.contents output.new)
-        (take n bytes.now) }
-{
-    let mut at = 0;
-    for _ in 0..u64::MAX {
-        if at == bytes.len() {
-            return Ok(());
-        }
-        match output.write(&bytes[at..]) {
-            Ok(0) => break,
-            Ok(count) => at += count,
-            Err(error) if error.kind() == io::ErrorKind::Interrupted => {}
-            Err(error) => return Err(error),
-        }
-    }
-    Err(io::Error::new(io::ErrorKind::WriteZero, "failed to write whole buffer"))
 }

@@ -8,7 +8,7 @@ use Rattle.perf_file.specs.Opened.{File}
 use Rattle.perf_file.specs.declared.entries.Entry.{Entry}
 use Rattle.perf_lines.specs.declared.outcome.Outcome.{Outcome}
 use Rattle.perf_lines.specs.declared.outcome.Outcome.TheVariants as outcome
-use Rattle.perf_lines.proofs.Known.{appends_more, appends_nothing}
+use Rattle.perf_text.proofs.Written.{appends_more, appends_nothing}
 use Rattle.perf_walk.specs.Moments.{moments}
 use Rattle.perf_walk.specs.declared.walk.Walk.{Walk}
 use Rattle.perf_script.specs.Labels.{any_counts, labels_by}

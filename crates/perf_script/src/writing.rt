@@ -12,7 +12,7 @@ ghost use Rattle.perf_file.specs.declared.entries.Entry as entries;
 use crate::script::{Events, Script};
 use perf_file::{Entry, Recording};
 use perf_lines::outcome::Outcome;
-use perf_lines::output::write_whole;
+use perf_lines::output::write_and_flush;
 use std::alloc::{AllocError, Global};
 use std::io::Write;
 
@@ -26,7 +26,7 @@ fn write_part<W: Write>(text: &mut Vec<u8>, writer: &mut W) -> bool
         Appends (W.contents writer.old) (W.contents writer.new) text.old.items }
     ensures part { writing.WritesFront text.old.items (W.contents writer.old) (W.contents writer.new) }
 {
-    let whole = write_whole(writer, text);
+    let whole = write_and_flush(writer, text);
     text.clear();
     whole
 }

@@ -15,7 +15,7 @@ use crate::json::json_of_summary;
 use crate::text::text_of_summary;
 use perf_file::{OpenError, Recording};
 use perf_lines::outcome::Outcome;
-use perf_lines::output::write_whole;
+use perf_lines::output::write_and_flush;
 use perf_threads::threads_of;
 use std::alloc::{AllocError, Global};
 use std::io::Write;
@@ -73,7 +73,7 @@ fn write_text<W: Write>(writer: &mut W, text: &String, refused: bool) -> Outcome
     ensures { Writes result refused (string_bytes text.now)
         (W.contents writer.old) (W.contents writer.new) }
 {
-    if !write_whole(writer, text.as_bytes()) {
+    if !write_and_flush(writer, text.as_bytes()) {
         Outcome::Stopped
     } else if refused {
         Outcome::Refused

@@ -8,7 +8,7 @@ use crate::tests::runs::{
 };
 use perf_event_data::endian::Little;
 use perf_lines::outcome::Outcome;
-use perf_lines::output::write_whole;
+use perf_lines::output::write_and_flush;
 use perf_lines::run::run;
 use perf_test_inputs::bytes::{FIVE_LOST, TWO};
 use perf_test_inputs::orders::Counting;
@@ -189,7 +189,7 @@ fn check_part(rt: &(impl AllocGlobal + Abort), limits: Limits, text: &[u8], outp
         output: Vec::new(rt.alloc()),
         limits,
     };
-    let is_whole = write_whole(&mut writer, text);
+    let is_whole = write_and_flush(&mut writer, text);
     let actual = (writer.output.as_slice(), is_whole);
     check_same(rt, "what is kept", actual, (output, false));
 }

@@ -3,7 +3,7 @@ use Rattle.std.proofs.lemmas.List.{length-take}
 use Rattle.std.specs.Prelude.{Option, IsTrue}
 use Rattle.perf_parser.specs.FrameRuns.{EndsFrames}
 use Rattle.perf_parser.specs.ReaderState.{parser_buffer, parser_state}
-use Rattle.perf_parser.specs.declared.runs.RunEnd.{RunEnd}
+use Rattle.perf_parser.specs.declared.run.RunEnd.{RunEnd}
 use Rattle.perf_reader.specs.ReaderState.{ReaderState}
 use Rattle.perf_reports.specs.FramePrinting.{PrintsFirst, answers_left}
 use Rattle.perf_reports.specs.Printing.{is_memory}

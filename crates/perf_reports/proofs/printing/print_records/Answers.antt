@@ -1,8 +1,8 @@
 use Rattle.std.proofs.Common.{◌≡◌, ◌+◌, Bool, true, false, ap, refl, subst, ◌∙◌, if◌then◌else◌}
 use Rattle.perf_base.specs.Configured.{configuration_of, endian_of}
 use Rattle.perf_parser.specs.ReaderState.{parser_state}
-use Rattle.perf_parser.specs.declared.runs.RunEnd.{RunEnd}
-use Rattle.perf_parser.specs.declared.runs.RunEnd.TheVariants as end
+use Rattle.perf_parser.specs.declared.run.RunEnd.{RunEnd}
+use Rattle.perf_parser.specs.declared.run.RunEnd.TheVariants as end
 use Rattle.perf_reader.specs.ReaderState.{ReaderState}
 use Rattle.perf_reports.specs.FramePrinting.{PrintsRun}
 use Rattle.perf_reports.specs.declared.printing.TheConstants.{BATCH}

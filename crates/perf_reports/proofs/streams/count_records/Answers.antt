@@ -1,7 +1,7 @@
 use Rattle.std.proofs.Common.{List, ℕ, sym, subst}
 use Rattle.std.specs.Prelude.{Option}
 use Rattle.perf_parser.specs.ReaderState.{parser_buffer, parser_state}
-use Rattle.perf_parser.specs.declared.runs.RunEnd.{RunEnd}
+use Rattle.perf_parser.specs.declared.run.RunEnd.{RunEnd}
 use Rattle.perf_reader.specs.ReaderState.{ReaderState}
 use Rattle.perf_reports.specs.Counting.{CountsRun, EndsBy}
 use Rattle.perf_reports.specs.declared.counts.Counts.{Counts}

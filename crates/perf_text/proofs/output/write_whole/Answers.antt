@@ -2,9 +2,9 @@ use Rattle.std.proofs.Common.{ℕ, ◌≤◌, List, length, take, drop, arith, s
 use Rattle.std.specs.Io.KnownBytes.{Appends}
 use Rattle.std.proofs.Math.Seq.{take-add}
 use Rattle.std.proofs.lemmas.List.{take_rest}
-use Rattle.perf_reports.proofs.Printed.{appends_more, appends_kept}
-use Rattle.perf_reports.proofs.printing.write_whole.Goals as goal
-use Rattle.perf_reports.proofs.printing.write_whole.Goals.{in-Ok, in-Err}
+use Rattle.perf_text.proofs.Written.{appends_more, appends_kept}
+use Rattle.perf_text.proofs.output.write_whole.Goals as goal
+use Rattle.perf_text.proofs.output.write_whole.Goals.{in-Ok, in-Err}
 
 pub loop-preserved : goal.loop-preserved
 loop-preserved g c =
