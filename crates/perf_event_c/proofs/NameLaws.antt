@@ -1,5 +1,5 @@
 -- Names of events as places in a file, and as text in memory of the caller's.
-use Rattle.std.proofs.Common.{◌≡◌, ◌≢◌, ℕ, zero, suc, ◌+◌, ◌-◌, ◌*◌, ◌≤◌, ◌<◌, List, [], ◌∷◌, ◌++◌, ◌&&◌, ◌||◌, ◌==◌, Bool, true, false, cond, map, length, get_or, set, take, drop, min, Option, Some, None, Result, Ok, Err, OnOk, Contains, All, zip, refl, sym, ap, subst, ◌∙◌, nat_eq, nat_le, nat_lt, arith}
+use Rattle.std.proofs.Common.{◌≡◌, ◌≢◌, ℕ, suc, ◌+◌, ◌-◌, ◌*◌, ◌≤◌, ◌<◌, List, [], ◌∷◌, ◌++◌, ◌&&◌, ◌||◌, ◌==◌, Bool, true, false, cond, map, length, get_or, set, take, drop, Option, Some, None, Result, Ok, Err, OnOk, Contains, All, zip, refl, sym, ap, subst, ◌∙◌, nat_eq, nat_le, nat_lt, arith}
 use Rattle.std.proofs.lemmas.Bool.{eq-eqb, eqb-true, le-leb, lt-leb}
 use Rattle.std.proofs.lemmas.List.{drop-drop, take-take, drop-take, length-take-le, length-drop, length-map, get_or-map}
 use Rattle.std.proofs.lemmas.List.Elements.{All-cons, All-head, All-tail}

@@ -1,6 +1,6 @@
 -- Boxes inside and beside one another.
-use Rattle.std.proofs.Common.{◌≡◌, ◌≢◌, ℕ, ◌+◌, ◌*◌, ◌/◌, ◌<◌, ◌≤◌, Bool, true, false, cond, eqb, ltb, ◌||◌, List, [], ◌∷◌, min, max, inl, inr, refl, sym, ap, subst, ◌∙◌, arith}
-use Rattle.std.specs.Prelude.{◌⊎◌, codes}
+use Rattle.std.proofs.Common.{◌≡◌, ◌≢◌, ℕ, ◌+◌, ◌*◌, ◌/◌, ◌<◌, ◌≤◌, Bool, true, false, cond, eqb, ltb, ◌||◌, List, [], ◌∷◌, max, inl, inr, refl, sym, ap, ◌∙◌, arith}
+use Rattle.std.specs.Prelude.{◌⊎◌}
 use Rattle.std.proofs.Math.Nat.{div-mul-le_self}
 use Rattle.std.proofs.lemmas.Nat.{le-div}
 use Rattle.std.proofs.lemmas.Bool.{cases_eq, true≢false}
@@ -9,7 +9,7 @@ use Rattle.std.proofs.lemmas.List.Sums.{sum_by-cons}
 use Rattle.perf_flame.specs.Boxes.{begins, is_before, worth_of, left_of}
 use Rattle.perf_flame.specs.Laws.{IsInside, IsPlain, IsEntity}
 use Rattle.perf_flame.specs.Lines.{Line, total_of}
-use Rattle.perf_flame.specs.Svg.{edge, escaped, escaped_byte}
+use Rattle.perf_flame.specs.Svg.{edge, escaped_byte}
 use Rattle.perf_flame.proofs.Begins.{before_trans, not_before_itself, before_longer, before_or_begins}
 
 chain_step : (q r x : ℕ) (a b c : Bool) → (a ≡ true → b ≡ true → c ≡ true) → cond (eqb r q) a false ≡ true → cond (eqb x r) b false ≡ true → cond (eqb x q) c false ≡ true

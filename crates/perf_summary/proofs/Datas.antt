@@ -3,7 +3,6 @@ use Rattle.std.proofs.Common.{◌≡◌, ℕ, zero, suc, ◌+◌, ◌<◌, List,
 use Rattle.std.specs.Prelude.{count_by}
 use Rattle.std.proofs.lemmas.List.{take_more, length-take-le}
 use Rattle.serde_json.specs.Data.{Data}
-use Rattle.perf_base.specs.declared.endian.Dynamic.{Dynamic}
 use Rattle.perf_file.specs.FeatureTexts.{text_of, command_line_of}
 use Rattle.perf_file.specs.Names.{Name, name_view, name_text}
 use Rattle.perf_file.specs.Opened.{File, FileEvent, event_view}

@@ -4,7 +4,7 @@ use Rattle.std.specs.Prelude.{Result, Ok, Err, is_ok, is_none, option_map, optio
 use Rattle.std.specs.Result.{result_ok}
 use Rattle.perf_base.specs.Attribute.{or_zero}
 use Rattle.perf_base.specs.Configuration.{Configuration, under_misc}
-use Rattle.perf_base.specs.Layout.{Parts, done, part, check, map_parts, value, layout, layout_at}
+use Rattle.perf_base.specs.Layout.{Parts, done, part, check, map_parts, value, layout}
 use Rattle.perf_base.specs.Order.{Order}
 use Rattle.perf_base.specs.Refusals.{refusal_kind}
 use Rattle.perf_base.specs.declared.error.ErrorKind.{ErrorKind}

@@ -1,7 +1,7 @@
 -- Counts of frames, one frame after another.
-use Rattle.std.proofs.Common.{◌≡◌, ℕ, zero, suc, ◌+◌, ◌%◌, ◌≤◌, ◌<◌, ◌^◌, ◌==◌, Bool, true, false, List, [], ◌∷◌, ◌++◌, length, map, get_or, replicate, Option, Some, None, refl, sym, ap, ◌∙◌, add-zero, append-nil, length-append, subst, cond, arith}
+use Rattle.std.proofs.Common.{◌≡◌, ℕ, zero, suc, ◌+◌, ◌%◌, ◌≤◌, ◌<◌, ◌^◌, ◌==◌, Bool, true, false, List, [], ◌∷◌, ◌++◌, length, map, get_or, Option, Some, None, refl, sym, ap, ◌∙◌, add-zero, append-nil, length-append, cond, arith}
 use Rattle.std.specs.Prelude.{min, max, sum_by, count_by, nat_lt, nat_le, is_some, if◌then◌else◌}
-use Rattle.std.specs.List.{filter, reduce, fold}
+use Rattle.std.specs.List.{filter, reduce}
 use Rattle.std.proofs.Math.Dec.{eqb-suc-zero}
 use Rattle.std.proofs.Math.Nat.{mod-add-mod, mod-eq_of_lt}
 use Rattle.std.proofs.lemmas.Bool.{lt-ltb}
@@ -10,7 +10,7 @@ use Rattle.std.proofs.lemmas.List.Elements.{filter-append}
 use Rattle.std.proofs.lemmas.List.Sums.{sum_by_push, fold-append, count_by-le-length}
 use Rattle.perf_base.specs.Attribute.{or_zero}
 use Rattle.perf_summary.specs.Counts.{is_number, of_event, is_sample, is_refused, sample_times, event_count, type_count, other_count, AreCounts}
-use Rattle.perf_summary.specs.Steps.{one_if, plus, picked, joined, with_sample, with_others, with_frame, ChangesAt, no_count, IsNew, AddsFrame}
+use Rattle.perf_summary.specs.Steps.{one_if, plus, picked, joined, with_sample, with_others, with_frame, no_count, IsNew, AddsFrame}
 use Rattle.perf_summary.specs.declared.contents.Contents.{Contents}
 use Rattle.perf_summary.specs.declared.counts.Counts.{Counts}
 use Rattle.perf_summary.specs.declared.counts.EventCount.{EventCount}

@@ -1,6 +1,5 @@
 -- The samples that a filter takes.
 use Rattle.std.proofs.Common.{◌≡◌, ℕ, Bool, ◌==◌, ◌&&◌, ◌||◌, true, false, List, length, refl, sym, ◌∙◌, ap}
-use Rattle.std.specs.Prelude.{Some}
 use Rattle.perf_flat.specs.Samples.{sample_present}
 use Rattle.perf_history.specs.Histories.{name_of}
 use Rattle.perf_history.specs.declared.names.Name.{Name}

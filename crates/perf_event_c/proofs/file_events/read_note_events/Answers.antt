@@ -8,7 +8,6 @@ use Rattle.perf_file.specs.declared.section.Section.{Section}
 use Rattle.perf_file.proofs.PipeCounts.{ids_fit}
 use Rattle.perf_file.proofs.PipeInMemory.{has_note_events, outline_count, sections_refused, attributes_refused}
 use Rattle.perf_event_c.specs.FileEvents.{flat_event, note_events, HaveIds}
-use Rattle.perf_event_c.specs.declared.file_events.FlatEvent.{FlatEvent}
 use Rattle.perf_event_c.proofs.FileLaws.{opens_pipe, note_list, places_refused, read_ends, only_first}
 use Rattle.perf_event_c.proofs.NameLaws.{ids_inside, always_ok}
 use Rattle.perf_event_c.proofs.file_events.read_note_events.Goals as goal

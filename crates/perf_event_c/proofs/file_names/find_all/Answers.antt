@@ -1,4 +1,4 @@
-use Rattle.std.proofs.Common.{◌≡◌, ◌<◌, List, map, length, get_or, Contains, All, refl, ap, sym, subst, arith}
+use Rattle.std.proofs.Common.{List, get_or, Contains, All, sym, subst}
 use Rattle.perf_base.specs.Dynamic.{order_of}
 use Rattle.perf_file.specs.NamePlaces.{IsUnnamed, unnamed}
 use Rattle.perf_file.specs.declared.name_places.NamePlace.{NamePlace}

@@ -1,6 +1,4 @@
-use Rattle.std.proofs.Common.{ℕ, List, ◌++◌, get_or, map, sym, ap, ◌∙◌}
-use Rattle.serde_json.specs.View.{view}
-use Rattle.perf_summary.specs.OwnData.{own_types_data}
+use Rattle.std.proofs.Common.{ℕ, List, ◌++◌, get_or, sym, ap, ◌∙◌}
 use Rattle.perf_summary.specs.SummaryJson.{type_data}
 use Rattle.perf_summary.proofs.Datas.{types_data_more}
 use Rattle.perf_summary.proofs.json.type_values.Goals as goal
