@@ -121,7 +121,8 @@ class Run:
                 print(f"    {body.path}:{body.line} {' '.join(body.functions())}{took}: {why[:160]}", flush=True)
 
     def lanes(self):
-        return self.options.jobs if self.log.ended else max(1, self.options.jobs // 2)
+        """How many crates are tried at a time. While proofs run, which go first, one processor is theirs alone."""
+        return self.options.jobs if self.log.ended else max(1, self.options.jobs - 1)
 
     def all(self, wanted):
         """Tries the crates in the order in which they are proved, the largest of those that are ready first."""
