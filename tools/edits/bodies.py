@@ -1,15 +1,17 @@
 #!/usr/bin/env python3
 """Shows that the prover refuses each wrong body of `crates/NAME/edits`, at a goal of the function that it changes.
 
-    tools/edits/bodies.py [--jobs N] [--verbose] [--anew] [--right] [--after LOG] [CRATE[/EDIT]..]
+    tools/edits/bodies.py [--jobs N] [--verbose] [--anew] [--record] [--right] [--after LOG] [CRATE[/EDIT]..]
 
 Run it at the top of the repository, over the libraries that `rt ci` proved, or beside it with --after LOG: then it
 begins with a crate as soon as the log of `rt ci` names it as proved, with fewer checks at a time until that has ended.
 The README beside this file says how bodies are tried. A line says for each file of edits whether all its bodies were
 refused, and another for each body that was not. The last line is how many bodies were; the status is 1 if one was not.
-A body that was refused is kept, for this user and on this machine, by the sum of all that its check read: the texts of
-its crate and of the libraries below, the kit, and these tools. So a later run tries only bodies that are new, or whose
-texts have changed, and with --anew all. With --verbose lines tell what each check took, and each body in it.
+The bodies of a crate that `refused.txt` records over the same texts are not tried, but for a tenth of all (record.py);
+with --anew all are tried. With --record the crates all of whose bodies were refused are written there.
+A body that was refused is also kept, for this user and on this machine, by the sum of all that its check read: the texts
+of its crate and of the libraries below, the kit, and these tools. So a later run tries only bodies that are new, or whose
+texts have changed. With --verbose lines tell what each check took, and each body in it.
 With --right the right body of each function that can be copied is tried in the copy's place, and must be proved there:
 so what refuses a wrong body is that body, and nothing that a copy lacks.
 """
@@ -29,6 +31,7 @@ sys.dont_write_bytecode = True
 from edits import Body, bodies_of  # noqa: E402
 from kept import Kept  # noqa: E402
 from kit import load_rt  # noqa: E402
+from record import Record  # noqa: E402
 from trial import Trial  # noqa: E402
 
 PROVED = re.compile(r"rt: (\w+)(?: is kept:.*| proved)$")
@@ -63,7 +66,7 @@ class Run:
         self.top, self.options = Path.cwd(), options
         self.rtlib = load_rt()
         self.rtlib.Crate.cuts_libraries = True
-        self.log, self.print, self.bodies = Log(options.after), threading.Lock(), []
+        self.log, self.print, self.bodies, self.record = Log(options.after), threading.Lock(), [], Record()
         # what the prover calls the folder of the files of proof that it offers
         self.offers = set()
 
@@ -76,9 +79,7 @@ class Run:
             if self.options.right:
                 found = self.tried(name, found)
             else:
-                kept = Kept(self.rtlib.Crate(f"{self.top}/crates/{name}", str(self.top), {}), bool(self.options.after))
-                self.tried(name, found if self.options.anew else kept.take(found))
-                kept.keep(found)
+                self.refuse(self.rtlib.Crate(f"{self.top}/crates/{name}", str(self.top), {}), edits, found)
             self.bodies += found
         except (OSError, ValueError) as why:
             with self.print:
@@ -87,6 +88,19 @@ class Run:
         with self.print:
             for edit in edits:
                 self.tell(name, edit.stem, [it for it in found if it.edit == edit.stem])
+
+    def refuse(self, crate, edits, bodies):
+        """Tries the bodies of a crate that are not known to be refused."""
+        is_recorded = self.record.has(crate, edits, bodies)
+        if is_recorded and crate.name not in self.record.some and not self.options.anew:
+            for body in bodies:
+                body.told = body.before = "recorded"
+            return
+        kept = Kept(crate, bool(self.options.after))
+        self.tried(crate.name, bodies if self.options.anew else kept.take(bodies))
+        kept.keep(bodies)
+        if len(edits) == len(edits_of(self.top, [crate.name])[crate.name]) and all(it.told for it in bodies):
+            self.record.add(crate, edits, bodies)
 
     def tried(self, name, bodies):
         """Tries bodies of a crate, if there are any, and returns those that were tried."""
@@ -111,8 +125,8 @@ class Run:
             print(f"{name}/{edit}: {good} of {len(bodies)} right bodies proved in a copy", flush=True)
         else:
             verdict = "refused" if bodies and good == len(bodies) else "NOT REFUSED"
-            before = sum(it.is_kept for it in bodies)
-            before = f", {before} of them in an earlier run" if before else ""
+            before = ", ".join(sorted({it.before for it in bodies if it.before}))
+            before = f" ({before})" if before else ""
             print(f"{verdict}: {name}/{edit}: {good} of {len(bodies)} at their own goal{before}", flush=True)
         for body in bodies:
             if self.options.verbose or not body.told:
@@ -159,12 +173,15 @@ def main():
     words.add_argument("--jobs", type=int, default=min(4, len(os.sched_getaffinity(0))))
     words.add_argument("--verbose", action="store_true")
     words.add_argument("--anew", action="store_true", help="try also what was refused before, over the same texts")
+    words.add_argument("--record", action="store_true", help="write the crates all of whose bodies were refused")
     words.add_argument("--right", action="store_true", help="try the right bodies instead, which must be proved")
     words.add_argument("--after", metavar="LOG")
     words.add_argument("crates", nargs="*", metavar="CRATE[/EDIT]")
     run = Run(words.parse_args())
     run.all(edits_of(run.top, run.options.crates))
-    good, before = sum(bool(it.told) for it in run.bodies), sum(it.is_kept for it in run.bodies)
+    if run.options.record:
+        run.record.write()
+    good, before = sum(bool(it.told) for it in run.bodies), sum(bool(it.before) for it in run.bodies)
     if before:
         print(f"{before} bodies were refused in an earlier run, over the same texts")
     print(f"{good} of {len(run.bodies)} bodies {'proved in a copy' if run.options.right else 'refused at their own goal'}")

@@ -19,7 +19,9 @@ class Body:
         # the functions of its file, the traits of its crate, and the module of its type
         self.known, self.traits, self.home = set(), set(), None
         self.told, self.why, self.tries, self.took, self.number, self.is_declared = "", "", 0, 0, 0, False
-        self.is_copied, self.is_in_macro, self.is_kept = True, False, False
+        self.is_copied, self.is_in_macro = True, False
+        # where it is known to be refused, if it need not be tried
+        self.before = ""
 
     def place(self, lines):
         """Finds the function around the edited line, and the type whose impl contains it."""

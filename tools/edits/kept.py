@@ -37,7 +37,8 @@ class Kept:
     def take(self, bodies):
         """Notes what was said of the bodies that were refused before, and returns the others."""
         for body in bodies:
-            body.told, body.is_kept = self.told.get(sum_of(body), ""), sum_of(body) in self.told
+            body.told = self.told.get(sum_of(body), "")
+            body.before = "kept" if body.told else ""
         return [it for it in bodies if not it.told]
 
     def keep(self, bodies):
