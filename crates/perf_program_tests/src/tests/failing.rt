@@ -13,6 +13,7 @@ use perf_lines::run::run;
 use perf_test_inputs::bytes::{FIVE_LOST, TWO};
 use perf_test_inputs::orders::Counting;
 use perf_test_inputs::readers::Failing;
+use perf_text::output::write_whole;
 use std::alloc::AllocError;
 use std::cell::Cell;
 use std::io;
@@ -379,5 +380,25 @@ fn a_run_without_an_attribute_borrows_its_order(rt: HostRuntime) {
             outcome,
         };
         check_run(&rt, bytes, Counting::single(&calls), actual);
+    }
+}
+
+#[test]
+fn an_interrupted_write_is_made_again(rt: HostRuntime) {
+    let text = REFUSED_TEXT.as_bytes();
+    for room in 0..text.len() {
+        let limits = Limits {
+            most: 4,
+            room,
+            fails: true,
+            lasts: false,
+        };
+        let mut writer = Limited {
+            output: Vec::new(rt.alloc()),
+            limits,
+        };
+        let is_whole = write_whole(&mut writer, text, true).is_ok();
+        let actual = (writer.output.as_slice(), is_whole);
+        check_same(&rt, "what is kept", actual, (text, true));
     }
 }
