@@ -664,16 +664,22 @@ def keys_reach_everything(page):
     page.browser.wait("return document.activeElement.id === 'help'")
 
 
+def has_contrast(page, what):
+    """No text has too little contrast, once colours no longer change."""
+    page.browser.wait("return document.getAnimations().every((it) => it.playState !== 'running')")
+    same(page.browser.run(CONTRAST), [], what)
+
+
 def contrast(page):
     """Texts have a contrast of at least 4.5 to 1 in both themes."""
     bad = bytearray((EXAMPLES / "recording.stream").read_bytes()[:9000])
     for theme in ("light", "dark"):
         page.start(f"#theme={theme}")
-        same(page.browser.run(CONTRAST), [], f"contrast before a file is open, {theme}")
+        has_contrast(page, f"contrast before a file is open, {theme}")
         page.must_open(page.write("cut.stream", bytes(bad)))
         for tab in ("overview", "timeline", "flame", "tasks", "records"):
             page.show(f"tab={tab}&theme={theme}&range=0-90000000&frame=3&search=a")
-            same(page.browser.run(CONTRAST), [], f"contrast of {tab}, {theme}")
+            has_contrast(page, f"contrast of {tab}, {theme}")
     grounds = []
     page.start()
     for scheme in ("light", "dark"):
