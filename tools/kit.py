@@ -16,7 +16,20 @@ def load_rt():
     made = importlib.util.module_from_spec(importlib.util.spec_from_loader("rtlib", loader))
     sys.modules["rtlib"] = made
     loader.exec_module(made)
+    keep_stamps(made.Crate)
     return made
+
+
+def keep_stamps(crates):
+    """Has each crate's sum of texts computed once: it is made of those of all libraries below."""
+    made, stamps = crates.stamp, {}
+
+    def stamp(crate):
+        if crate.folder not in stamps:
+            stamps[crate.folder] = made(crate)
+        return stamps[crate.folder]
+
+    crates.stamp = stamp
 
 
 def crate_of(rtlib, top, name):
