@@ -1,4 +1,5 @@
 """What the tools here take of the kit's `rt`: how it calls the prover for a crate."""
+import functools
 import importlib.machinery
 import importlib.util
 import os
@@ -16,20 +17,9 @@ def load_rt():
     made = importlib.util.module_from_spec(importlib.util.spec_from_loader("rtlib", loader))
     sys.modules["rtlib"] = made
     loader.exec_module(made)
-    keep_stamps(made.Crate)
+    # computed once for each crate, as it is made of the sums of all libraries below
+    made.Crate.stamp = functools.cache(made.Crate.stamp)
     return made
-
-
-def keep_stamps(crates):
-    """Has each crate's sum of texts computed once: it is made of those of all libraries below."""
-    made, stamps = crates.stamp, {}
-
-    def stamp(crate):
-        if crate.folder not in stamps:
-            stamps[crate.folder] = made(crate)
-        return stamps[crate.folder]
-
-    crates.stamp = stamp
 
 
 def crate_of(rtlib, top, name):
