@@ -3,9 +3,9 @@
 #
 # Without ARCHIVE it makes one by each of the kit's two compilers over the libraries that `rt ci` proved,
 # of which the second is for C and C++ alone, and one for arm64 and one for WebAssembly, if their tools are
-# here. A line says of each test whether it passed, failed or was skipped; what a test skipped, or what of it
-# failed and the end of what it printed, follows it, indented. The status is 0 if none failed. No network is
-# needed, and nothing is left in the repository.
+# here. A line says of each test whether it passed, failed or was skipped, and its seconds of processor time; what a
+# test skipped, or what of it failed and the end of what it printed, follows it, indented. The status is 0 if none
+# failed. No network is needed, and nothing is left in the repository.
 set -u
 top=$(cd "$(dirname "$0")/.." && pwd)
 cd "$top" || exit 2
@@ -26,6 +26,15 @@ absent() {
     done
 }
 
+# Sets `took` to the seconds of processor time since it was last called.
+spent=0
+count_time() {
+    # (the second line is the time of all children, as 1m2.3s 0m4.5s)
+    times >"$work/times"
+    took=$(awk -F '[ms ]+' -v before=$spent 'NR == 2 { print int(60 * $1 + $2 + 60 * $3 + $4) - before }' "$work/times")
+    spent=$((spent + took))
+}
+
 # A test, for which tools are needed: face NAME TOOLS COMMAND WORD..
 face() {
     name=$1 tools=$2
@@ -35,10 +44,12 @@ face() {
     if [ -n "$missing" ]; then
         echo "skipped: $name: no $missing"
     elif timeout 900 "$@" >"$work/log" 2>&1 </dev/null; then
-        echo "passed: $name"
+        count_time
+        echo "passed: $name ($took seconds)"
         grep '^skipped' "$work/log" | sed 's/^/    /'
     else
-        echo "FAILED: $name"
+        count_time
+        echo "FAILED: $name ($took seconds)"
         grep '^FAILED' "$work/log" | sed 's/^/    /'
         tail -n 20 "$work/log" | sed 's/^/    | /'
         status=1
@@ -78,7 +89,7 @@ arm_faces() {
         echo "skipped: arm64: no archive for it"
         return
     fi
-    face "C on arm64" "$arm_tools" env CROSS=aarch64-linux-gnu- RUN=qemu-aarch64-static \
+    face "C on arm64" "$arm_tools" env CROSS=aarch64-linux-gnu- RUN=qemu-aarch64-static TESTED="$tested" \
         bindings/test.sh "$arm_archive" crates
     face "package for arm64" "$arm_tools pkg-config tar gzip" bindings/arm_test.sh "$arm_archive"
 }
@@ -90,7 +101,7 @@ js_face() {
     if [ -z "$(absent $js_tools)" ] && [ ! -f "$work/$wasm/libperf_event_c.a" ]; then
         echo "skipped: JavaScript: no archive for $wasm"
     else
-        face "JavaScript" "$js_tools" env PERF_EVENT_DATA_SO="${shared:-}" \
+        face "JavaScript" "$js_tools" env PERF_EVENT_DATA_SO="${shared:-}" MODULES="$work/modules" \
             bindings/js/test.sh "$work/$wasm/libperf_event_c.a" "$perfrec"
     fi
 }
@@ -101,7 +112,9 @@ web_face() {
         echo "skipped: the page: no archive for $wasm"
     else
         [ -x $shows ] && program=$shows || program=
-        face "the page" "$js_tools" bindings/web/test.sh "$work/$wasm/libperf_event_c.a" $program
+        [ -f "$work/modules/wide_module.mjs" ] && modules=$work/modules || modules=
+        face "the page" "$js_tools" env MODULES="$modules" \
+            bindings/web/test.sh "$work/$wasm/libperf_event_c.a" $program
     fi
 }
 
@@ -137,15 +150,20 @@ elif [ -n "$(absent python3)" ]; then
     exit $status
 elif python3 bindings/gate_archive.py "$work" x86_64-unknown-linux-gnu $targets >"$work/log" 2>&1 </dev/null; then
     cat "$work/log"
+    count_time
+    echo "archives: $took seconds of processor time"
 else
     echo "skipped: the faces: $(head -n 1 "$work/log")"
     tail -n +2 "$work/log"
     exit $status
 fi
 face "names of functions in folded stacks" "awk sed" bindings/stacks_test.sh
-face "C and C++" "cc c++ make nm" bindings/test.sh "$archive" crates
+# The proved programs are tested by the first alone of the tests of C, if it runs.
+tested=$([ -n "$(absent cc c++ make nm)" ] || echo yes)
+face "C and C++" "cc c++ make nm" env OBJECTS="$work/objects" bindings/test.sh "$archive" crates
 if [ -f "$second" ]; then
-    face "C and C++, over the archive of the kit's second compiler" "cc c++ make nm" bindings/test.sh "$second" crates
+    face "C and C++, over the archive of the kit's second compiler" "cc c++ make nm" \
+        env OBJECTS="$work/objects" TESTED="$tested" bindings/test.sh "$second" crates
 fi
 face "Rust" "cc cargo" bindings/rust/test.sh "$work/llvm"
 if [ -z "$(absent cc make python3)" ]; then

@@ -11,7 +11,9 @@
 #
 # For an archive of another machine, in the environment: CROSS is how the names of its tools begin, as
 # aarch64-linux-gnu-, and RUN the program that runs its programs, as qemu-aarch64-static. The structs are
-# then compared with those of this machine too; nothing is sanitized, and valgrind is not used.
+# then compared with those of this machine too; nothing is sanitized, and valgrind is not used. With OBJECTS=FOLDER the
+# programs' objects are left there, and those that are there already are not compiled again; with TESTED=yes the proved
+# programs are only compared with those of C, as another run has tested them.
 set -u
 if [ $# -lt 1 ] || [ ! -f "$1" ]; then
     echo "usage: bindings/test.sh ARCHIVE [CRATES [STREAMS]]" >&2
@@ -104,7 +106,8 @@ check_warnings() {
 
 build() {
     if [ -z "$run" ]; then
-        try "build in $1" make -s -C "$top/bindings/c" ARCHIVE="$archive" BUILD="$work/$1" SANITIZE="$2"
+        try "build in $1" make -s -C "$top/bindings/c" ARCHIVE="$archive" BUILD="$work/$1" \
+            OBJECTS="${OBJECTS:-$work}/$1.objects" SANITIZE="$2"
         return
     fi
     try "build in $1" make -s -C "$top/bindings/c" ARCHIVE="$archive" BUILD="$work/$1.made" \
@@ -196,6 +199,7 @@ usage() {
 check_words() {
     try "words of perfrec" "$top/bindings/words_test.sh" "$1/perfrec"
     [ -z "$sanitize" ] || try "words of perfrec, sanitized" "$top/bindings/words_test.sh" "$2/perfrec"
+    [ -z "${TESTED:-}" ] || return
     if perfrec=$(program perfrec); then
         try "the same by the proved perfrec" "$top/bindings/words_test.sh" "$perfrec"
     else
@@ -205,6 +209,7 @@ check_words() {
 
 # A file of `perf record` in place of a stream: each proved program names perf_data, which reads it.
 check_other_files() {
+    [ -z "${TESTED:-}" ] || return
     for words in "perfrec little 100" "perfrec little 100 attr" perf_samples perf_tasks "perf_count little" \
         "perf_count little attr"; do
         name=${words%% *}
@@ -232,18 +237,21 @@ check_streams() {
         try "generated streams, under valgrind" valgrind -q --error-exitcode=9 "$1/replay" "$work/list"
     fi
     try "counts of generated streams" python3 "$top/bindings/streams.py" counts "$work/list" "$1/perf_count"
-    if count=$(program perf_count); then
-        try "the same by the proved perf_count" python3 "$top/bindings/streams.py" counts "$work/list" "$count"
-    else
-        skip "counts by the proved perf_count: it is not given"
+    if [ -z "${TESTED:-}" ]; then
+        if count=$(program perf_count); then
+            try "the same by the proved perf_count" python3 "$top/bindings/streams.py" counts "$work/list" "$count"
+        else
+            skip "counts by the proved perf_count: it is not given"
+        fi
+        program perf_replay >/dev/null || skip "generated streams by the proved perf_replay: it is not given"
     fi
-    program perf_replay >/dev/null || skip "generated streams by the proved perf_replay: it is not given"
     check_replay
     check_more "$1" $((streams - 200))
 }
 
 # The text of the list by the proved programs.
 check_replay() {
+    [ -z "${TESTED:-}" ] || return
     replay=$(program perf_replay) || return
     try "the same by the proved perf_replay" sh -c '"$1" <"$2"' sh "$replay" "$work/list"
 }

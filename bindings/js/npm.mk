@@ -3,6 +3,8 @@
 #     make -C bindings npm [WASM_ARCHIVE=libperf_event_c.a]
 WASM = wasm64-unknown-unknown
 WASM_ARCHIVE = $(TOP)/crates/perf_event_c/out/$(WASM)/libperf_event_c.a
+# The folder of the two modules, if module.sh has made them of that archive before.
+MODULES =
 JS = $(HERE)/js
 JS_MODULES = perf_event_data.mjs batch.mjs columns.mjs config.mjs entries.mjs features.mjs fields.mjs file.mjs \
     file_frames.mjs file_readers.mjs frames.mjs growing.mjs library.mjs machine.mjs readers.mjs stream.mjs wide.mjs
@@ -14,7 +16,8 @@ $(WASM_ARCHIVE):
 
 js: $(WASM_ARCHIVE)
 	rm -rf $(OUT)/js
-	$(JS)/module.sh $(WASM_ARCHIVE) "$(KIT)" $(OUT)/js
+	$(if $(MODULES),$(INSTALL) -D -m 644 -t $(OUT)/js $(addprefix $(MODULES)/,module.mjs wide_module.mjs), \
+	    $(JS)/module.sh $(WASM_ARCHIVE) "$(KIT)" $(OUT)/js)
 	$(INSTALL) -m 644 $(JS_FILES) $(TOP)/CHANGELOG.md $(OUT)/js/
 
 npm: js licences

@@ -5,6 +5,7 @@
 #     bindings/js/test.sh ARCHIVE [PERFREC [STREAMS]]
 #
 # ARCHIVE is for wasm64-unknown-unknown; the others are those of test.mjs, and PERF_EVENT_DATA_SO that of test_open.mjs.
+# With MODULES=FOLDER in the environment the modules that it makes are left there, for the test of the page.
 # A line is what passed, failed or was skipped; the status is 0 if nothing failed.
 set -u
 if [ $# -lt 1 ] || [ ! -f "$1" ]; then
@@ -35,6 +36,7 @@ package=$work/out/perf-event-data-$(cat "$here/../VERSION").tgz
 module=$(sed -n 's/.*"\(.*\)".*/\1/p' "$work/out/js/module.mjs" | base64 -d | wc -c)
 pass "pack: $(stat -c %s "$package") bytes, of a module of $module bytes"
 cp "$package" "$work/first.tgz"
+[ -z "${MODULES:-}" ] || { mkdir -p "$MODULES" && cp "$work/out/js/module.mjs" "$work/out/js/wide_module.mjs" "$MODULES"; }
 tar -tzf "$package" | grep -qx package/licences/kit/bitflags/LICENSE-MIT && pass "its licences" || fail "its licences are absent"
 
 mkdir "$work/elsewhere" && cd "$work/elsewhere" || exit 2

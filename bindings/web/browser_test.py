@@ -3,11 +3,12 @@
 the proved program perf_data prints, if its path is given:
 
     bindings/web/browser_test.py PAGE.html [--browser firefox] [--program PERF_DATA] [--only WORD] [--pictures FOLDER]
-        [--megabytes 52]
+        [--megabytes 52] [--large FILE]
 
 A line says of each test whether it passed, what failed, or what was skipped. The page is opened from the disk, by
 Chromium if no browser is named. `--only` runs the tests that have the word in their names, and `--pictures` writes those
-of docs/VIEW.md instead. The status is 0 if nothing failed, and 77, after a line that says so, if the browser is not here.
+of docs/VIEW.md instead. The large recording is made in FILE, if that is not there yet. The status is 0 if nothing failed,
+and 77, after a line that says so, if the browser is not here.
 """
 import argparse
 import base64
@@ -827,7 +828,7 @@ def main():
         page = Page(words.page, folder, kind, (1280, 863 if words.pictures else 800), words.program)
         try:
             page.large = words.large or page.folder / "large.data"
-            if {stopping, speed} & set(tests) and not words.large:
+            if {stopping, speed} & set(tests) and not page.large.exists():
                 page.large.write_bytes(made.bytes_of(made.build(jobs=20 * words.megabytes)))
             passed = [run(test, page) for test in tests]
             if words.pictures:

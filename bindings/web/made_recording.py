@@ -59,6 +59,8 @@ class Recording:
         self.random = random.Random(seed)
         self.frames = []
         self.functions = {}
+        # where a program's calls are, which are looked up for each sample
+        self.places = {}
         for name, (root, below) in CALLS.items():
             self.place(name, root, below)
         for name in FAULT + SYSCALL:
@@ -98,9 +100,12 @@ class Recording:
         return user, SYSCALL + kernel if kernel else []
 
     def address(self, program, name):
-        file, _, own = name.partition(":") if name.startswith("libc:") else (program, "", name)
-        base = 0x7f0000000000 if file == "libc" else 0x400000
-        return base + self.at(file, own) + self.random.choice((4, 4, 0x10, 0x7c))
+        place = self.places.get((program, name))
+        if place is None:
+            file, _, own = name.partition(":") if name.startswith("libc:") else (program, "", name)
+            place = (0x7f0000000000 if file == "libc" else 0x400000) + self.at(file, own)
+            self.places[program, name] = place
+        return place + self.random.choice((4, 4, 0x10, 0x7c))
 
     def sample(self, time, task, cpu, program, event=0):
         user, kernel = self.stack(program)

@@ -4,8 +4,8 @@
 #     bindings/web/test.sh ARCHIVE [PERF_DATA]
 #
 # ARCHIVE is for wasm64-unknown-unknown. In place of it, a folder that `make -C bindings js` made can be named. PERF_DATA is
-# the proved program, whose numbers the page has to have. A line is what passed, failed or was skipped; the status is 0 if
-# nothing failed.
+# the proved program, whose numbers the page has to have. With MODULES=FOLDER in the environment the modules are those that
+# bindings/js/test.sh left there. A line is what passed, failed or was skipped; the status is 0 if nothing failed.
 set -u
 if [ $# -lt 1 ] || [ ! -e "$1" ]; then
     echo "usage: bindings/web/test.sh ARCHIVE [PERF_DATA]" >&2
@@ -26,7 +26,7 @@ build() {
     if [ -d "$archive" ]; then
         node "$here/build.mjs" "$archive" "$work/out/perf-view.html"
     else
-        make -s -C "$here/.." web OUT="$work/out" WASM_ARCHIVE="$archive"
+        make -s -C "$here/.." web OUT="$work/out" WASM_ARCHIVE="$archive" MODULES="${MODULES:-}"
     fi >"$work/log" 2>&1
 }
 
@@ -59,7 +59,7 @@ if ! command -v python3 >/dev/null; then
     exit $status
 fi
 for browser in chromium firefox; do
-    python3 "$here/browser_test.py" "$page" --browser $browser ${program:+--program "$program"}
+    python3 "$here/browser_test.py" "$page" --browser $browser --large "$work/large.data" ${program:+--program "$program"}
     ended=$?
     [ $ended = 0 ] || [ $ended = 77 ] || status=1
 done

@@ -7,7 +7,7 @@ Run it at the top of the repository, over the libraries that `rt ci` proved, or 
 begins with a crate as soon as the log of `rt ci` names it as proved, with fewer checks at a time until that has ended.
 The README beside this file says how bodies are tried. A line says for each file of edits whether all its bodies were
 refused, and another for each body that was not. The last line is how many bodies were; the status is 1 if one was not.
-The bodies of a crate that `refused.txt` records over the same texts are not tried, but for a tenth of all (record.py);
+The bodies of a crate that `refused.txt` records over the same texts are not tried, but for a twentieth of all (record.py);
 with --anew all are tried. With --record the crates all of whose bodies were refused are written there.
 A body that was refused is also kept, for this user and on this machine, by the sum of all that its check read: the texts
 of its crate and of the libraries below, the kit, and these tools. So a later run tries only bodies that are new, or whose
@@ -41,14 +41,20 @@ class Log:
     """The log of an `rt ci` that may still run: which crates it has proved, and whether it has ended."""
 
     def __init__(self, path):
-        self.path, self.proved, self.ended = path, set(), path is None
+        self.path, self.proved, self.ended, self.read = path, set(), path is None, 0
 
     def look(self):
+        """Reads the whole lines that were written since it last looked."""
         if self.path is None:
             return
-        lines = self.text().split("\n")
-        self.proved = {found[1] for found in map(PROVED.match, lines) if found}
-        self.ended = any(re.match(r"\d+ passed, \d+ failed", it) for it in lines)
+        with open(self.path, "rb") as it:
+            it.seek(self.read)
+            added = it.read()
+        added = added[: added.rfind(b"\n") + 1]
+        self.read += len(added)
+        lines = added.decode(errors="replace").split("\n")
+        self.proved |= {found[1] for found in map(PROVED.match, lines) if found}
+        self.ended = self.ended or any(re.match(r"\d+ passed, \d+ failed", it) for it in lines)
 
     def text(self):
         with open(self.path, encoding="utf-8", errors="replace") as it:
@@ -140,6 +146,7 @@ class Run:
 
     def all(self, wanted):
         """Tries the crates in the order in which they are proved, the largest of those that are ready first."""
+        sizes = {name: sum(it.stat().st_size for it in edits) for name, edits in wanted.items()}
         with ThreadPoolExecutor(self.options.jobs) as pool:
             running = []
             while wanted or running:
@@ -148,12 +155,12 @@ class Run:
                     running.remove(ended)
                     ended.result()
                 ready = [it for it in wanted if self.log.path is None or it in self.log.proved]
-                ready.sort(key=lambda it: -sum(edit.stat().st_size for edit in wanted[it]))
+                ready.sort(key=lambda it: -sizes[it])
                 for name in ready[: max(0, self.lanes() - len(running))]:
                     running.append(pool.submit(self.crate, name, wanted.pop(name)))
                 if not ready and self.log.ended and not running:
                     break
-                time.sleep(0.5)
+                time.sleep(2)
         for name in wanted:
             print(f"NOT TRIED: {name}: rt ci has not proved it", flush=True)
             self.bodies.append(Body(name, "", [], False, 0))

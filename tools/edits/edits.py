@@ -23,9 +23,8 @@ class Body:
         # where it is known to be refused, if it need not be tried
         self.before = ""
 
-    def place(self, lines):
-        """Finds the function around the edited line, and the type whose impl contains it."""
-        starts = [at for at, text in enumerate(lines, 1) if is_function(text)]
+    def place(self, lines, starts):
+        """Finds the function around the edited line, and the type whose impl contains it, where functions start at these lines."""
         self.text = lines[self.line - 1]
         ends = [it for it in lines[: self.line] if it.startswith(("macro_rules!", "}"))]
         self.is_in_macro = bool(ends) and ends[-1].startswith("macro_rules!")
@@ -72,6 +71,11 @@ class Body:
 
 def module_of(path):
     return "" if path in ("src/lib.rt", "src/main.rt") else path[len("src/") : -len(".rt")].replace("/", "::")
+
+
+def starts_of(lines):
+    """The lines at which functions start."""
+    return [at for at, text in enumerate(lines, 1) if "fn" in text and is_function(text)]
 
 
 def is_function(text):
@@ -178,8 +182,10 @@ def bodies_of(edit, folder):
         found[-1].pairs.append((path, old, new))
         texts[path] = text.replace(old, new)
     files, types, traits = texts_of(folder), types_of(folder), traits_of(folder)
+    lines = {path: text.split("\n") for path, text in texts.items()}
+    starts = {path: starts_of(it) for path, it in lines.items()}
     for body in found:
-        body.place(texts[body.path].split("\n"))
+        body.place(lines[body.path], starts[body.path])
         body.known, body.traits, body.home = set(FUNCTION.findall(files[body.path])), traits, types.get(body.owner)
     return found if whole else joined(found)
 
@@ -194,10 +200,11 @@ def functions_of(folder):
 def located(path, text, types, traits):
     """The functions of a file, but for those that traits declare: the prover's name of each, and its place."""
     lines = text.split("\n")
-    for line in [at for at, it in enumerate(lines, 1) if is_function(it)]:
+    starts = starts_of(lines)
+    for line in starts:
         body = Body("", path, [], False, line)
         body.pairs = [(path, "", lines[line - 1])]
-        body.place(lines)
+        body.place(lines, starts)
         body.known, body.traits, body.home = set(body.names), traits, types.get(body.owner)
         if not body.is_declared:
             yield body.functions()[0], body

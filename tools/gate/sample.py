@@ -3,10 +3,12 @@
 
     tools/gate/sample.py [--log FILE] COMMAND WORD..
 
-Every second it reads the processor time of each process of the prover, with what that process works on: the
-proof of a crate, that of its tests, or an edit of it. At the end it prints a table and the time of the whole
-command, by the clock and on processors. With --log FILE the table so far is also written there each minute.
-A process of which less than a second is seen counts in the whole alone. The status is that of the command.
+Every second it reads the processor time of each process of the prover, with what that process works on: the proof of
+a crate, that of its tests, an edit of it, or compiling it. A compiler or linker that the prover or `rt` starts counts
+as compiling the same crate. Other processes below the command are in a second table, by what runs: a program in a
+crate's out/, the first argument of an interpreter, or the process's own name. At the end it prints both tables and the
+time of the whole command, by the clock and on processors. With --log FILE the tables so far are also written there each
+minute. A process of which less than a second is seen counts in the whole alone. The status is that of the command.
 """
 import os
 import re
@@ -17,18 +19,32 @@ import time
 
 KINDS = ("proof", "tests", "edits", "compiling")
 TICK = os.sysconf("SC_CLK_TCK")
+# What runs a script, which is its first argument that is no option.
+INTERPRETERS = re.compile(r"(python|node|perl|bash|sh)[\d.]*$")
+COMPILERS = ("clang", "ld.lld", "rattle-link")
+# The rows of the second table.
+MOST = 40
+
+
+def state_of(process):
+    """The name of a process, its processor time in seconds, its parent, and when it began."""
+    try:
+        with open(f"/proc/{process}/stat", encoding="ascii", errors="replace") as it:
+            head, _, rest = it.read().rpartition(")")
+        fields = rest.split()
+        return head.partition("(")[2], (int(fields[11]) + int(fields[12])) / TICK, fields[1], fields[19]
+    except (OSError, IndexError, ValueError):
+        return None
 
 
 def words_of(process):
-    """The command line of a process, the folder that it runs in, and its processor time in seconds."""
+    """The command line of a process, and the folder that it runs in."""
     try:
         with open(f"/proc/{process}/cmdline", "rb") as it:
             words = it.read().decode(errors="replace").split("\0")
-        with open(f"/proc/{process}/stat", encoding="ascii", errors="replace") as it:
-            fields = it.read().rpartition(")")[2].split()
-        return words, os.readlink(f"/proc/{process}/cwd"), (int(fields[11]) + int(fields[12])) / TICK, int(fields[1])
-    except (OSError, IndexError, ValueError):
-        return [], "", 0.0, 0
+        return words, os.readlink(f"/proc/{process}/cwd")
+    except OSError:
+        return [], ""
 
 
 def kind_of(words, folder):
@@ -43,38 +59,74 @@ def kind_of(words, folder):
     return crate, "tests" if "--test" in words else "proof"
 
 
+def other_of(name, words):
+    """What another process runs."""
+    script = next((it for it in words[1:] if it and not it.startswith("-")), "")
+    is_script = INTERPRETERS.match(name) and script and "-c" not in words[1:3]
+    return os.path.basename(script if is_script else words[0] if words else "") or name
+
+
 class Times:
     """The processor time of each process that was seen, by what it works on."""
 
     def __init__(self, root):
-        self.root, self.seen = root, {}
+        self.root, self.seen = str(root), {}
+        # what each process that still runs works on: it is looked up again if it begins another program
+        self.known = {}
 
     def look(self):
-        parents, found = {}, {}
-        for process in filter(str.isdigit, os.listdir("/proc")):
-            words, folder, seconds, parent = words_of(process)
-            parents[process] = str(parent)
-            kind = kind_of(words, folder) if words and os.path.basename(words[0]) == "rattle" else None
-            if kind:
-                found[process] = kind, seconds
-        for process, (kind, seconds) in found.items():
-            above = process
-            while above in parents and above != str(self.root):
-                above = parents[above]
-            if above == str(self.root):
-                self.seen[process, kind] = seconds
+        states = {it: state_of(it) for it in os.listdir("/proc") if it.isdigit()}
+        states = {it: state for it, state in states.items() if state}
+        below = {self.root: True}
+        known, self.known = self.known, {}
+        for process in states:
+            if self.is_below(process, states, below):
+                name, seconds, _, began = states[process]
+                key = process, began, name
+                what = known.get(key) or self.what(process, name, states)
+                self.seen[*key, what] = seconds
+                # (a process that has just begun may not tell its words yet)
+                if what != ("rattle",):
+                    self.known[key] = what
+
+    def is_below(self, process, states, below):
+        """Whether a process is the command's, or one that it started. What is known of others is kept in `below`."""
+        if process not in below:
+            below[process] = False
+            below[process] = process in states and self.is_below(states[process][2], states, below)
+        return below[process]
+
+    def what(self, process, name, states):
+        """A crate and one of KINDS, or only what runs."""
+        words, folder = words_of(process)
+        first = os.path.basename(words[0]) if words else name
+        if first == "rattle" and kind_of(words, folder):
+            return kind_of(words, folder)
+        if first in COMPILERS:
+            above = words_of(states[process][2])[0]
+            if kind_of(above, ""):
+                return kind_of(above, "")[0], "compiling"
+            if "/crates/" in folder:
+                return os.path.basename(folder), "compiling"
+        return (other_of(name, words),)
 
     def table(self):
-        sums = {}
-        for (_, (crate, kind)), seconds in self.seen.items():
-            row = sums.setdefault(crate, dict.fromkeys(KINDS, 0.0))
-            row[kind] += seconds
+        sums, others = {}, {}
+        for (_, _, _, what), seconds in self.seen.items():
+            if len(what) == 1:
+                others[what[0]] = others.get(what[0], 0.0) + seconds
+            else:
+                row = sums.setdefault(what[0], dict.fromkeys(KINDS, 0.0))
+                row[what[1]] += seconds
         lines = ["| Crate | " + " | ".join(KINDS) + " | all |", "|---" * (len(KINDS) + 2) + "|"]
         rows = sorted(sums.items(), key=lambda it: -sum(it[1].values()))
         total = {kind: sum(row[kind] for _, row in rows) for kind in KINDS}
         for name, row in [*rows, ("all", total)]:
             cells = [f"{row[kind] / 60:.1f}" if row[kind] else "" for kind in KINDS]
             lines.append(f"| {name} | " + " | ".join([*cells, f"{sum(row.values()) / 60:.1f}"]) + " |")
+        lines += ["", "| Others | minutes |", "|---|---|"]
+        for name, seconds in [*sorted(others.items(), key=lambda it: -it[1])[:MOST], ("all", sum(others.values()))]:
+            lines.append(f"| {name} | {seconds / 60:.1f} |")
         return "\n".join(lines)
 
 

@@ -3,12 +3,12 @@
 second, the third, the fourth and the sixteenth.
 
 All are tried by one `rt try` that refuses the sixteenth of each process: each test stands there six times, and makes 16 - N
-requests before, if its request N is to be refused. Records of a slice are the same, and a sample with only raw bytes makes one allocation.
+requests before, if its request N is to be refused. A test of a table stands there for each of its rows. Records of a slice are the same, and a sample with only raw bytes makes one allocation.
 With a buffered reader, which makes the first allocation, a run over nothing makes none, and one that lists a sample
 allocates capacity for the frame, then for the sample, and then for its call chain. If capacity for one answer is
 refused, it is requested again. The fourth request of a report is for the line of its second frame, or for the list in
-it: the first line is printed. The sixteenth comes after the calls of each test of `requests` and `reports`: how many are
-granted before it tells how many requests the calls made.
+it: the first line is printed. The sixteenth comes after the calls of each row of `requests` and each test of `reports`: how
+many are granted before it tells how many requests the calls made.
 """
 
 import re
@@ -71,6 +71,9 @@ MOST = {
     "a report of tasks": 6,
 }
 TEST = re.compile(r"^#\[test\]\nfn (\w+)\(rt: HostRuntime\) \{\n(.*?^\}\n)", re.MULTILINE | re.DOTALL)
+# The table of a test, whose rows are tried alone, and how many it has.
+ROWS = re.compile(r"^    \w+\(&rt, &([A-Z]+)\);\n\}\n$")
+TABLE = re.compile(r"^const ([A-Z]+): \[Row<'static>; (\d+)\] =", re.MULTILINE)
 SPEND = """//! Requests for memory before those of a test.
 
 /// Makes this many requests, and gives back what is granted.
@@ -87,11 +90,18 @@ fn {name}_{request}(rt: HostRuntime) {{
 """
 
 
-def copies(found):
-    """A test, once for each request of it that is refused."""
-    name, body = found.groups()
+def rows_of(name, body, tables):
+    """A test of a table, once for each row; any other test, once."""
+    table = ROWS.match(body)
+    if not table:
+        return [(name, body)]
+    return [(f"{name}_{row}", body.replace(table[1], f"{table[1]}[{row}..{row + 1}]")) for row in range(tables[table[1]])]
+
+
+def copies(tests):
+    """Tests, once for each request of them that is refused."""
     requests = (0, *LINES, LAST)
-    return "".join(CALL.format(name=name, request=it, spent=LAST - it, body=body) for it in requests)
+    return "".join(CALL.format(name=name, request=it, spent=LAST - it, body=body) for name, body in tests for it in requests)
 
 
 def copy_tests(source):
@@ -99,11 +109,13 @@ def copy_tests(source):
     count = 0
     for file in source.rglob("*.rt"):
         text = file.read_text(encoding="utf-8")
-        made, found = TEST.subn(copies, text)
-        if found != text.count("#[test]"):
+        tables = {name: int(rows) for name, rows in TABLE.findall(text)}
+        tests = [rows_of(*found, tables) for found in TEST.findall(text)]
+        if len(tests) != text.count("#[test]"):
             raise ValueError(f"{file.name} has a test in another form")
-        file.write_text(made, encoding="utf-8")
-        count += found
+        made = iter(tests)
+        file.write_text(TEST.sub(lambda _: copies(next(made)), text), encoding="utf-8")
+        count += sum(map(len, tests))
     (source / "spend.rt").write_text(SPEND, encoding="utf-8")
     with open(source / "lib.rt", "a", encoding="utf-8") as it:
         it.write("#[cfg(test)]\nmod spend;\n")

@@ -16,11 +16,13 @@ RETURNS = {
     "perf_base": "byte orders, errors, configurations",
     "perf_buffers": "the next bytes, in place or together",
     "perf_reader": "numbers, strings, header, attribute",
-    "perf_types": "records, and reads of counters",
+    "perf_counters": "reads of counters",
+    "perf_types": "records but samples",
     "perf_sample_types": "samples and sample ids",
     "perf_records": "a frame's record, visit, numbers",
     "perf_parser": "runs, frames handed out, own types",
     "perf_flat": "a frame as one struct, no memory",
+    "perf_sections": "the sections of a perf.data file",
     "perf_file": "the frames of a perf.data file",
     "perf_history": "names of threads, and what is mapped",
     "perf_walk": "frames in turn, and what is known then",
@@ -46,7 +48,7 @@ RETURNS = {
 FACES = ("perf_event_data", "perf_event_c", "perf_file", "perf_history", "perf_flame")
 OTHERS = {
     "Examples and measurements": ["perf_uses", "perf_bench", "perf_file_bench"],
-    "Tests": ["perf_program_tests", "perf_unit_tests", "perf_file_tests", "perf_history_tests", "perf_flame_tests",
+    "Tests": ["perf_program_tests", "perf_unit_tests", "perf_frame_tests", "perf_file_tests", "perf_history_tests", "perf_flame_tests",
               "perf_walk_tests", "perf_script_tests", "perf_out_of_memory", "perf_replay"],
     "Tests without a parser": ["perf_buffer_tests", "perf_value_tests"],
     "What tests share": ["perf_test_inputs", "perf_test_helpers"],

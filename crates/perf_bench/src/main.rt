@@ -39,8 +39,13 @@ fn main(rt: HostRuntime) -> Result<()> {
     let (Ok(rounds), Ok(seed)) = (rounds.parse::<u64>(), seed.parse::<u64>()) else {
         bail!("{USAGE}");
     };
+    measure_each(&rt, name.as_str(), rounds, seed)
+}
+
+// Measures each workload that a word names.
+fn measure_each(rt: &HostRuntime, name: &str, rounds: u64, seed: u64) -> Result<()> {
     for (other, workload) in WORKLOADS {
-        if name.as_str() == *other || name.as_str() == "all" {
+        if name == *other || name == "all" {
             let digest = workload.measure(rt.alloc(), rounds, seed)?;
             println!(rt;
                 "{other} {} {} {}",

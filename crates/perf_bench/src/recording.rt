@@ -231,21 +231,7 @@ impl Maker {
         let last = [task, time, cpu];
         let other = stream.random.number();
         match stream.random.bits(4) {
-            0..=7 => {
-                let place = other % (1 << 47);
-                let words = [
-                    task,
-                    place,
-                    1 << 16,
-                    0,
-                    order.pair(8, 1),
-                    other,
-                    1,
-                    order.pair(5, 2),
-                ];
-                let name = self.files.pick(&mut stream.random);
-                stream.push_frame(10, words, name, &last)
-            }
+            0..=7 => self.push_mapping(stream, task, other, &last),
             8..=10 => {
                 let name = self.tasks.pick(&mut stream.random);
                 stream.push_frame(3, [task], name, &last)
@@ -254,12 +240,46 @@ impl Maker {
             12 => stream.push_frame(4, [task, task, time], &[], &last),
             13 => stream.push_frame(2, [other, 17], &[], &last),
             14 => stream.push_frame(5, [time, other, other], &[], &last),
-            _ => {
-                let name = self.tasks.pick(&mut stream.random);
-                let words = [other, order.pair(4_096, 0x1_0000)];
-                stream.push_frame(17, words, name, &last)
-            }
+            _ => self.push_symbol(stream, other, &last),
         }
+    }
+
+    // Appends a mapping of a task's, whose place and inode are of a random number.
+    #[inline]
+    fn push_mapping(
+        &self,
+        stream: &mut Stream,
+        task: u64,
+        other: u64,
+        last: &[u64],
+    ) -> Result<(), AllocError> {
+        let order = stream.order;
+        let place = other % (1 << 47);
+        let words = [
+            task,
+            place,
+            1 << 16,
+            0,
+            order.pair(8, 1),
+            other,
+            1,
+            order.pair(5, 2),
+        ];
+        let name = self.files.pick(&mut stream.random);
+        stream.push_frame(10, words, name, last)
+    }
+
+    // Appends a symbol of the kernel's at an address.
+    #[inline]
+    fn push_symbol(
+        &self,
+        stream: &mut Stream,
+        address: u64,
+        last: &[u64],
+    ) -> Result<(), AllocError> {
+        let words = [address, stream.order.pair(4_096, 0x1_0000)];
+        let name = self.tasks.pick(&mut stream.random);
+        stream.push_frame(17, words, name, last)
     }
 }
 

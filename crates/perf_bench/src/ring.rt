@@ -7,10 +7,7 @@ use crate::digest::Digest;
 use anyhow::Result;
 use perf_event_data::endian::Little;
 use perf_event_data::parse::{ParseBuf, ParseConfig, ParseResult, Parser};
-use perf_event_data::sys::perf_event_attr;
-use perf_event_data::{
-    Comm, Mmap2, Partial, PartialVisitor, PieceBuf, Record, RecordMetadata, Sample,
-};
+use perf_event_data::{Comm, Mmap2, Partial, PartialVisitor, PieceBuf, RecordMetadata, Sample};
 use std::alloc::Global;
 
 /// A digest of the samples, mappings and names that are visited.
@@ -76,23 +73,36 @@ pub fn read_ring(
     requires { 0 < most }
 {
     let buffer = PieceBuf::new(bytes, most, false);
-    let mut parser = Parser::new(alloc, buffer, ParseConfig::<Little>::default());
-    let attr = parser.parse::<perf_event_attr>()?;
-    let mut parser = parser.reconfigure(ParseConfig::<Little>::from(attr));
+    let parser = Parser::new(alloc, buffer, ParseConfig::<Little>::default());
+    let mut parser = parser.after_attribute()?;
     for _ in 0..u64::MAX {
-        let answer = match taken {
-            Taken::ByMetadata => by_metadata(&mut parser, digest),
-            Taken::ByVisitor => by_visitor(&mut parser, digest),
-        };
-        match answer {
-            Ok(()) => digest.frame(),
-            Err(error) => {
-                digest.error(&error);
-                break;
-            }
+        if !read_frame(&mut parser, taken, digest) {
+            break;
         }
     }
     Ok(())
+}
+
+// Reads a frame, and returns whether it could.
+fn read_frame<'p, B: ParseBuf<'p>>(
+    parser: &mut Parser<B, Little>,
+    taken: Taken,
+    digest: &mut Digest,
+) -> bool {
+    let answer = match taken {
+        Taken::ByMetadata => by_metadata(parser, digest),
+        Taken::ByVisitor => by_visitor(parser, digest),
+    };
+    match answer {
+        Ok(()) => {
+            digest.frame();
+            true
+        }
+        Err(error) => {
+            digest.error(&error);
+            false
+        }
+    }
 }
 
 fn by_visitor<'p, B: ParseBuf<'p>>(
@@ -110,7 +120,9 @@ fn by_metadata<'p, B: ParseBuf<'p>>(
 ) -> ParseResult<()> {
     let (mut body, metadata) = parser.parse_metadata()?;
     digest.metadata(&metadata);
-    read_body(&mut body, metadata.ty(), digest)
+    let answer = read_body(&mut body, metadata.ty(), digest);
+    drop(body);
+    answer
 }
 
 // Reads the body of a frame of a type.
@@ -120,10 +132,49 @@ fn read_body<'p, B: ParseBuf<'p>>(
     digest: &mut Digest,
 ) -> ParseResult<()> {
     match ty {
-        9 => digest.sample(&body.parse::<Sample>()?),
-        10 => digest.mmap2(&body.parse::<Mmap2>()?),
-        3 => digest.comm(&body.parse::<Comm>()?),
-        _ => digest.bytes(body.parse_rest()?.as_slice()),
+        9 => read_sample(body, digest),
+        10 => read_mmap2(body, digest),
+        3 => read_comm(body, digest),
+        _ => read_bytes(body, digest),
     }
+}
+
+fn read_sample<'p, B: ParseBuf<'p>>(
+    body: &mut Parser<B, Little>,
+    digest: &mut Digest,
+) -> ParseResult<()> {
+    let sample = body.parse::<Sample>()?;
+    digest.sample(&sample);
+    drop(sample);
+    Ok(())
+}
+
+fn read_mmap2<'p, B: ParseBuf<'p>>(
+    body: &mut Parser<B, Little>,
+    digest: &mut Digest,
+) -> ParseResult<()> {
+    let mapped = body.parse::<Mmap2>()?;
+    digest.mmap2(&mapped);
+    drop(mapped);
+    Ok(())
+}
+
+fn read_comm<'p, B: ParseBuf<'p>>(
+    body: &mut Parser<B, Little>,
+    digest: &mut Digest,
+) -> ParseResult<()> {
+    let comm = body.parse::<Comm>()?;
+    digest.comm(&comm);
+    drop(comm);
+    Ok(())
+}
+
+fn read_bytes<'p, B: ParseBuf<'p>>(
+    body: &mut Parser<B, Little>,
+    digest: &mut Digest,
+) -> ParseResult<()> {
+    let bytes = body.parse_rest()?;
+    digest.bytes(bytes.as_slice());
+    drop(bytes);
     Ok(())
 }

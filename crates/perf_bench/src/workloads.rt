@@ -6,9 +6,8 @@ use crate::ring::{Taken, read_ring};
 use crate::stream::{ByteOrder, Stream};
 use anyhow::Result;
 use perf_event_data::endian::{Dynamic, Endian, Little, Native};
-use perf_event_data::parse::{Parse, ParseBuf, ParseConfig, Parser};
-use perf_event_data::sys::perf_event_attr;
-use perf_event_data::{PieceBuf, RunEnd, read_records};
+use perf_event_data::parse::{ParseBuf, ParseConfig, Parser};
+use perf_event_data::{PieceBuf, Run, RunEnd, read_records};
 use perf_lines::run::run;
 use perf_reports::printing::{Report, print_recording};
 use std::alloc::Global;
@@ -174,14 +173,30 @@ impl Workload {
         let mut digest = Digest::new();
         let mut stream = Stream::new(alloc, seed);
         let mut text = Vec::new(alloc);
-        for Part(recording, order, size, way, count) in self.parts() {
-            let maker = Maker::new(alloc, *recording, *order, &mut stream.random)?;
-            for _ in 0..rounds.saturating_mul(*count as u64) {
-                maker.make(&mut stream, *size)?;
-                way.read(alloc, &stream, &mut text, &mut digest)?;
-            }
+        for part in self.parts() {
+            part.measure(alloc, rounds, &mut stream, &mut text, &mut digest)?;
         }
         Ok(digest)
+    }
+}
+
+impl Part {
+    // Makes and reads the recordings of this many rounds.
+    fn measure(
+        self,
+        alloc: Global,
+        rounds: u64,
+        stream: &mut Stream,
+        text: &mut Vec<u8>,
+        digest: &mut Digest,
+    ) -> Result<()> {
+        let Part(recording, order, size, way, count) = self;
+        let maker = Maker::new(alloc, recording, order, &mut stream.random)?;
+        for _ in 0..rounds.saturating_mul(count as u64) {
+            maker.make(stream, size)?;
+            way.read(alloc, stream, text, digest)?;
+        }
+        Ok(())
     }
 }
 
@@ -198,33 +213,50 @@ impl Way {
         match self {
             Way::Slice => read_all(alloc, bytes, Little, digest),
             Way::Chosen => read_all(alloc, bytes, chosen(stream.order), digest),
-            Way::Reader => {
-                let reader = BufReader::with_capacity(alloc, PIECE, bytes)?;
-                read_all(alloc, reader, Native, digest)
-            }
+            Way::Reader => read_buffered(alloc, bytes, digest),
             Way::Pieces(most) => {
                 let pieces = PieceBuf::new(bytes, most.max(1), false);
                 read_all(alloc, pieces, Little, digest)
             }
             Way::Ring(taken) => read_ring(alloc, bytes, 4_096, taken, digest),
             Way::Lines => {
-                text.clear();
-                let outcome = run(alloc, bytes, text, Little, usize::MAX, true, PIECE);
-                digest.number(u64::from(outcome.status()));
-                digest.text(text);
+                write_lines(alloc, bytes, text, digest);
                 Ok(())
             }
-            Way::Report(report) => {
-                text.clear();
-                let mut errors = Vec::new(alloc);
-                let clean = print_recording(alloc, bytes, text, &mut errors, report)?;
-                digest.number(u64::from(clean));
-                digest.bytes(&errors);
-                digest.text(text);
-                Ok(())
-            }
+            Way::Report(report) => write_report(alloc, bytes, text, report, digest),
         }
     }
+}
+
+// Reads a recording through a buffered reader.
+fn read_buffered(alloc: Global, bytes: &[u8], digest: &mut Digest) -> Result<()> {
+    let reader = BufReader::with_capacity(alloc, PIECE, bytes)?;
+    read_all(alloc, reader, Native, digest)
+}
+
+// Writes a line for each frame.
+fn write_lines(alloc: Global, bytes: &[u8], text: &mut Vec<u8>, digest: &mut Digest) {
+    text.clear();
+    let outcome = run(alloc, bytes, text, Little, usize::MAX, true, PIECE);
+    digest.number(u64::from(outcome.status()));
+    digest.text(text);
+}
+
+// Writes the text of samples or of tasks.
+fn write_report(
+    alloc: Global,
+    bytes: &[u8],
+    text: &mut Vec<u8>,
+    report: Report,
+    digest: &mut Digest,
+) -> Result<()> {
+    text.clear();
+    let mut errors = Vec::new(alloc);
+    let clean = print_recording(alloc, bytes, text, &mut errors, report)?;
+    digest.number(u64::from(clean));
+    digest.bytes(&errors);
+    digest.text(text);
+    Ok(())
 }
 
 // A byte order as the type that covers all of them.
@@ -243,26 +275,34 @@ fn read_all<'p, B: ParseBuf<'p> + Drop, E: Endian>(
     digest: &mut Digest,
 ) -> Result<()> {
     let config = ParseConfig::<Native>::default().with_endian(order);
-    let mut parser = Parser::new(alloc, buffer, config);
-    let attr = perf_event_attr::parse(&mut parser)?;
-    let order = parser.endian().duplicate()?;
-    let config = ParseConfig::<Native>::from(attr).with_endian(order);
-    let mut parser = parser.reconfigure(config);
+    let mut parser = Parser::new(alloc, buffer, config).after_attribute()?;
     for _ in 0..u64::MAX {
-        let run = read_records(&mut parser, BATCH);
-        digest.run(&run.frames);
-        match run.end {
-            RunEnd::Limit => digest.number(1),
-            RunEnd::Done => {
-                digest.number(2);
-                break;
-            }
-            RunEnd::CutHeader => {
-                digest.number(3);
-                break;
-            }
-            RunEnd::Fault(error) => return Err(error.into()),
+        if !read_batch(&mut parser, digest)? {
+            break;
         }
     }
     Ok(())
+}
+
+// Reads a batch, and returns whether there may be another.
+fn read_batch<'p, B: ParseBuf<'p>, E: Endian>(
+    parser: &mut Parser<B, E>,
+    digest: &mut Digest,
+) -> Result<bool> {
+    let Run { frames, end } = read_records(parser, BATCH);
+    digest.run(&frames);
+    drop(frames);
+    is_limit(end, digest)
+}
+
+// Whether a batch ended because it was full.
+fn is_limit(end: RunEnd, digest: &mut Digest) -> Result<bool> {
+    let number = match end {
+        RunEnd::Limit => 1,
+        RunEnd::Done => 2,
+        RunEnd::CutHeader => 3,
+        RunEnd::Fault(error) => return Err(error.into()),
+    };
+    digest.number(number);
+    Ok(number == 1)
 }

@@ -12,7 +12,7 @@ use Rattle.std.proofs.lemmas.List.Elements.{All-nil, All-cons, All-head, All-tai
 use Rattle.std.proofs.lemmas.List.Sorted.{IsPermutation-refl, IsPermutation-trans, IsPermutation-swap, IsPermutation-keeps, All-permutation}
 use Rattle.perf_base.specs.Dynamic.{order_of}
 use Rattle.perf_file.specs.Entries.{entry_of, entries_of, time_and_place, by_time_then_place, IsInOrder}
-use Rattle.perf_file.specs.Opened.{File}
+use Rattle.perf_sections.specs.Opened.{File}
 use Rattle.perf_file.specs.Pieces.{Piece, pieces_of, first_pieces, piece_in, piece_at, place_in, after_piece, drop_most}
 use Rattle.perf_file.specs.declared.entries.Entry.{Entry}
 use Rattle.perf_data_text.specs.DumpText.{AreByTime, pieces_at}

@@ -7,7 +7,7 @@ use Rattle.std.proofs.lemmas.List.Elements.{filter_map-append}
 use Rattle.std.proofs.lemmas.List.Folds.{list_any-append}
 use Rattle.std.proofs.lemmas.Bool.{lt-ltb, le-ltb, cases_lt}
 use Rattle.perf_base.specs.Dynamic.{order_of}
-use Rattle.perf_file.specs.Opened.{File}
+use Rattle.perf_sections.specs.Opened.{File}
 use Rattle.perf_file.specs.Pieces.{Piece, pieces_of, first_pieces, after_piece, piece_at}
 use Rattle.perf_file.specs.declared.entries.Entry.{Entry}
 use Rattle.perf_data_text.specs.DumpText.{piece_line, piece_lines, pieces_at, any_refused, words_of_piece, IsTextOfPieces}

@@ -9,7 +9,7 @@ use Rattle.perf_lines.specs.FileText.{Words, words_of_frame, file_line}
 use Rattle.perf_lines.specs.declared.line.file.FrameEvent.{FrameEvent}
 use Rattle.perf_lines.specs.declared.line.file.FrameEvent.TheVariants as event
 use Rattle.perf_file.specs.Entries.{config_of, time_of, by_time_then_place}
-use Rattle.perf_file.specs.Opened.{File}
+use Rattle.perf_sections.specs.Opened.{File}
 use Rattle.perf_file.specs.Payloads.{has_payload}
 use Rattle.perf_file.specs.Pieces.{Piece, header_seen, pieces_of, piece_at}
 use Rattle.perf_file.specs.declared.entries.Entry.{Entry}

@@ -4,8 +4,8 @@ use Rattle.std.specs.List.{flat_map, enumerate_from}
 use Rattle.perf_lines.specs.Fields.{field, number, with_spaces}
 use Rattle.perf_lines.specs.Text.{with_line_feed}
 use Rattle.perf_text.specs.Numbers.{hex}
-use Rattle.perf_file.specs.Names.{Name, name_text}
-use Rattle.perf_file.specs.Opened.{File, FileEvent}
+use Rattle.perf_sections.specs.Names.{Name, name_text}
+use Rattle.perf_sections.specs.Opened.{File, FileEvent}
 
 -- a name, `=` and a number in hexadecimal
 abbrev pub hex_number : List ℕ → ℕ → List ℕ

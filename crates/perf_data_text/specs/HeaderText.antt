@@ -5,7 +5,7 @@ use Rattle.perf_base.specs.declared.endian.Dynamic.{Dynamic}
 use Rattle.perf_text.specs.Numbers.{hex_bytes}
 use Rattle.perf_file.specs.BuildIds.{Build, build_ids_of}
 use Rattle.perf_file.specs.FeatureTexts.{text_of, command_line_of, sample_times_of}
-use Rattle.perf_file.specs.Names.{escaped}
+use Rattle.perf_sections.specs.Names.{escaped}
 use Rattle.perf_file.specs.declared.feature.BadFeature.{BadFeature}
 use Rattle.perf_file.specs.declared.header_texts.SampleTimes.{SampleTimes}
 

@@ -1,9 +1,9 @@
 -- The events of an open file, each with the name that was found.
 use Rattle.std.specs.Prelude.{◌≡◌, ◌<◌, ℕ, List, length, slice_index_or}
 use Rattle.std.specs.List.{flat_map, enumerate_from}
-use Rattle.perf_file.specs.Names.{Name, name_view, name_text}
-use Rattle.perf_file.specs.Opened.{FileEvent, event_view}
-use Rattle.perf_file.specs.declared.events.Event.{Event}
+use Rattle.perf_sections.specs.Names.{Name, name_view, name_text}
+use Rattle.perf_sections.specs.Opened.{FileEvent, event_view}
+use Rattle.perf_sections.specs.declared.events.Event.{Event}
 use Rattle.perf_file.specs.declared.opening.Recording.{Recording}
 use Rattle.perf_data_text.specs.EventText.{event_line}
 

@@ -5,12 +5,12 @@ use Rattle.perf_lines.specs.Outcomes.{status_of}
 use Rattle.perf_lines.specs.declared.outcome.Outcome.{Outcome}
 use Rattle.perf_lines.specs.declared.outcome.Outcome.TheVariants as outcome
 use Rattle.perf_file.specs.Forms.{opened, event_name}
-use Rattle.perf_file.specs.Names.{Name}
-use Rattle.perf_file.specs.Opened.{File, FileEvent}
-use Rattle.perf_file.specs.Opens.{Fails}
+use Rattle.perf_sections.specs.Names.{Name}
+use Rattle.perf_sections.specs.Opened.{File, FileEvent}
+use Rattle.perf_sections.specs.Opens.{Fails}
 use Rattle.perf_file.specs.Pieces.{pieces_of}
-use Rattle.perf_file.specs.declared.error.OpenError.{OpenError}
-use Rattle.perf_file.specs.declared.error.OpenError.TheVariants as errors
+use Rattle.perf_sections.specs.declared.error.OpenError.{OpenError}
+use Rattle.perf_sections.specs.declared.error.OpenError.TheVariants as errors
 use Rattle.perf_data_text.specs.EventText.{events_text}
 use Rattle.perf_data_text.specs.DumpText.{IsTextOfPieces, IsTextByTime}
 use Rattle.perf_data_text.specs.HeaderText.{header_text, is_refused}

@@ -1,8 +1,8 @@
 //! The events of a file, a line each.
 
 ghost use Rattle.std.specs.Prelude.{◌≡◌, ◌++◌, ℕ, IfOk, OnOk, codes, decimal, string_bytes};
-ghost use Rattle.perf_file.specs.Names.{Name};
-ghost use Rattle.perf_file.specs.Opened.{FileEvent, event_view};
+ghost use Rattle.perf_sections.specs.Names.{Name};
+ghost use Rattle.perf_sections.specs.Opened.{FileEvent, event_view};
 ghost use Rattle.perf_file.specs.Views.{view};
 ghost use Rattle.perf_lines.specs.Fields.{with_spaces};
 ghost use Rattle.perf_data_text.specs.EventText as events;

@@ -1,8 +1,8 @@
 //! The engine of the program: opens a file and writes what is inside.
 
 ghost use Rattle.std.specs.Prelude.{◌≡◌, ℕ, IfOk, string_bytes};
-ghost use Rattle.perf_file.specs.Names.{Name};
-ghost use Rattle.perf_file.specs.Opened.{FileEvent};
+ghost use Rattle.perf_sections.specs.Names.{Name};
+ghost use Rattle.perf_sections.specs.Opened.{FileEvent};
 ghost use Rattle.perf_file.specs.Views.{view};
 ghost use Rattle.perf_data_text.specs.OwnNames.{AreNamedBy};
 ghost use Rattle.perf_data_text.specs.Shown as shown;

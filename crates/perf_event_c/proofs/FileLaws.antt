@@ -8,19 +8,19 @@ use Rattle.perf_base.specs.Order.{Order}
 use Rattle.perf_base.specs.declared.endian.Dynamic.{Dynamic}
 use Rattle.perf_base.specs.declared.endian.Dynamic.TheVariants.{Big, Little}
 use Rattle.perf_base.specs.declared.sys.perf_event_attr.{perf_event_attr}
-use Rattle.perf_file.specs.IdPlaces as places
-use Rattle.perf_file.specs.IdSections.{id_sections_in, sections_of, checked_apart}
-use Rattle.perf_file.specs.IdTables.{id_table, event_of, checked_table}
-use Rattle.perf_file.specs.Opened.{File, FileEvent, opened_file, event_in, file_with, table_of}
-use Rattle.perf_file.specs.Opens.{◌>>=◌}
+use Rattle.perf_sections.specs.IdPlaces as places
+use Rattle.perf_sections.specs.IdSections.{id_sections_in, sections_of, checked_apart}
+use Rattle.perf_sections.specs.IdTables.{id_table, event_of, checked_table}
+use Rattle.perf_sections.specs.Opened.{File, FileEvent, opened_file, event_in, file_with, table_of}
+use Rattle.perf_sections.specs.Opens.{◌>>=◌}
 use Rattle.perf_file.specs.Outlines.{id_count, counted_ids, apart_parts, table_in, words_in}
 use Rattle.perf_file.specs.Pipes.{pipe_with, all_frames, opened_pipe}
-use Rattle.perf_file.specs.Sections.{ShareNothing, IsInside}
-use Rattle.perf_file.specs.declared.error.OpenError.{OpenError}
-use Rattle.perf_file.specs.declared.head.Head.{Head}
-use Rattle.perf_file.specs.declared.id_place.IdPlace.{IdPlace}
-use Rattle.perf_file.specs.declared.ids.IdOfEvent.{IdOfEvent}
-use Rattle.perf_file.specs.declared.section.Section.{Section}
+use Rattle.perf_sections.specs.Sections.{ShareNothing, IsInside}
+use Rattle.perf_sections.specs.declared.error.OpenError.{OpenError}
+use Rattle.perf_sections.specs.declared.head.Head.{Head}
+use Rattle.perf_sections.specs.declared.id_place.IdPlace.{IdPlace}
+use Rattle.perf_sections.specs.declared.ids.IdOfEvent.{IdOfEvent}
+use Rattle.perf_sections.specs.declared.section.Section.{Section}
 use Rattle.perf_file.specs.declared.summary.Outline.{Outline}
 use Rattle.perf_file.proofs.InMemory.{HasEvents, again}
 use Rattle.perf_file.proofs.PipeInMemory.{HasNoteEvents}

@@ -10,25 +10,25 @@ use Rattle.perf_base.specs.declared.sys.perf_event_attr.{perf_event_attr}
 use Rattle.std.specs.Prelude.{if◌then◌else◌}
 use Rattle.std.specs.List.{filter}
 use Rattle.perf_base.specs.Order.{Order}
-use Rattle.perf_file.specs.Attributes.{attributes_in}
+use Rattle.perf_sections.specs.Attributes.{attributes_in}
 use Rattle.perf_file.specs.Forms.{event_name, notes_of}
-use Rattle.perf_file.specs.IdTables.{is_event, event_of}
-use Rattle.perf_file.specs.Numbers.{number}
+use Rattle.perf_sections.specs.IdTables.{is_event, event_of}
+use Rattle.perf_sections.specs.Numbers.{number}
 use Rattle.perf_file.specs.Pipes.{FrameNote, pipe_order, all_frames, is_of, is_note, newer, has_name, new_name, named_by, named_event, last_name, noted_feature, noted_name}
-use Rattle.perf_file.specs.declared.ids.IdOfEvent.{IdOfEvent}
+use Rattle.perf_sections.specs.declared.ids.IdOfEvent.{IdOfEvent}
 use Rattle.perf_file.proofs.NewNames.{same_names, gets_name, keeps_name, other_event}
 use Rattle.perf_file.proofs.NotePlacing.{noted_alike}
-use Rattle.perf_file.specs.Features.{part_in, or_nothing, descriptions_of, file_descriptions}
-use Rattle.perf_file.specs.Heads.{head_in, checked_features, checked_parts}
-use Rattle.perf_file.specs.Names.{Name, described, described_or, name_by_numbers, first_of, key_of, name_of, name_with}
-use Rattle.perf_file.specs.Opened.{File, FileEvent, opened_file, checked_head, events_in, checked_events, file_with, table_of}
-use Rattle.perf_file.specs.Opens.{◌>>=◌}
-use Rattle.perf_file.specs.declared.head.Head.{Head}
-use Rattle.perf_file.proofs.NamePlacing.{first_word}
-use Rattle.perf_file.specs.NamePlaces.{first_id_at, name_at, name_or, unnamed, IsUnnamed}
-use Rattle.perf_file.specs.declared.descriptions.EventKey.{EventKey}
-use Rattle.perf_file.specs.Sections.{IsInside}
-use Rattle.perf_file.specs.declared.section.Section.{Section}
+use Rattle.perf_sections.specs.Features.{part_in, or_nothing, descriptions_of, file_descriptions}
+use Rattle.perf_sections.specs.Heads.{head_in, checked_features, checked_parts}
+use Rattle.perf_sections.specs.Names.{Name, described, described_or, name_by_numbers, first_of, key_of, name_of, name_with}
+use Rattle.perf_sections.specs.Opened.{File, FileEvent, opened_file, checked_head, events_in, checked_events, file_with, table_of}
+use Rattle.perf_sections.specs.Opens.{◌>>=◌}
+use Rattle.perf_sections.specs.declared.head.Head.{Head}
+use Rattle.perf_sections.proofs.NamePlacing.{first_word}
+use Rattle.perf_sections.specs.NamePlaces.{first_id_at, name_at, name_or, unnamed, IsUnnamed}
+use Rattle.perf_sections.specs.declared.descriptions.EventKey.{EventKey}
+use Rattle.perf_sections.specs.Sections.{IsInside}
+use Rattle.perf_sections.specs.declared.section.Section.{Section}
 use Rattle.perf_event_c.specs.FileEvents.{flat_event, flat_events, stated, event_numbers, EventNumbers, AreRead, HaveIds}
 use Rattle.perf_event_c.specs.FlatNames.{flat_key, flat_name, described_by, nameless, AreNames, FindsNames, over}
 use Rattle.perf_event_c.proofs.NextLaws.{States, bind_ok, of_head, config_is, no_event, no_flat, same_count}

@@ -10,7 +10,7 @@ use Rattle.perf_base.specs.declared.config.ParseConfig.{ParseConfig}
 use Rattle.perf_base.specs.declared.endian.Dynamic.{Dynamic}
 use Rattle.perf_base.specs.declared.endian.Dynamic.TheVariants.{Big, Little}
 use Rattle.perf_file.specs.Entries as file_entries
-use Rattle.perf_file.specs.Opened.{File, FileEvent}
+use Rattle.perf_sections.specs.Opened.{File, FileEvent}
 use Rattle.perf_flat.specs.Flat.{IsFlat, first_frame}
 use Rattle.perf_flat.specs.FlatConfigs.{Means, flat_config_of, attribute_with, is_valid, order_by}
 use Rattle.perf_flat.specs.declared.config.FlatConfig.{FlatConfig}

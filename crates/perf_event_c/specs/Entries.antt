@@ -4,7 +4,7 @@ use Rattle.std.specs.List.Sorted.{IsPermutation, IsSortedByKey}
 use Rattle.perf_base.specs.Dynamic.{order_of}
 use Rattle.perf_base.specs.Layout.{slice}
 use Rattle.perf_file.specs.Entries.{by_time_then_place, time_under, entry_of}
-use Rattle.perf_file.specs.Opened.{File}
+use Rattle.perf_sections.specs.Opened.{File}
 use Rattle.perf_file.specs.Pieces.{piece_in, place_in, after_piece}
 use Rattle.perf_file.specs.declared.entries.Entry.{Entry}
 use Rattle.perf_file.specs.declared.owning.Owner.{Owner}

@@ -6,7 +6,7 @@ use Rattle.perf_base.specs.Dynamic.{order_of}
 use Rattle.perf_base.specs.declared.config.ParseConfig.{ParseConfig}
 use Rattle.perf_base.specs.declared.endian.Dynamic.{Dynamic}
 use Rattle.perf_file.specs.Entries.{config_at}
-use Rattle.perf_file.specs.Opened.{File}
+use Rattle.perf_sections.specs.Opened.{File}
 use Rattle.perf_flat.specs.Flat.{IsFlat, first_frame}
 use Rattle.perf_flat.specs.declared.frame.FlatFrame.{FlatFrame}
 use Rattle.perf_event_c.specs.Entries.{event_at, left_from}

@@ -7,19 +7,19 @@ use Rattle.perf_base.specs.Layout.{words_of}
 use Rattle.perf_base.specs.Order.{Order}
 use Rattle.perf_base.specs.declared.endian.Dynamic.{Dynamic}
 use Rattle.perf_base.specs.declared.sys.perf_event_attr.{perf_event_attr}
-use Rattle.perf_file.specs.Attributes.{attributes_in}
+use Rattle.perf_sections.specs.Attributes.{attributes_in}
 use Rattle.perf_file.specs.Finders.{IsTableOf}
-use Rattle.perf_file.specs.IdPlaces.{id_place, is_same_place}
-use Rattle.perf_file.specs.Opened.{File, FileEvent, table_of}
-use Rattle.perf_file.specs.Opens.{◌>>=◌}
+use Rattle.perf_sections.specs.IdPlaces.{id_place, is_same_place}
+use Rattle.perf_sections.specs.Opened.{File, FileEvent, table_of}
+use Rattle.perf_sections.specs.Opens.{◌>>=◌}
 use Rattle.perf_file.specs.PipeOutlines.{from_notes}
 use Rattle.perf_file.specs.Pipes.{FrameNote, noted_attribute}
-use Rattle.perf_file.specs.declared.error.OpenError.{OpenError}
-use Rattle.perf_file.specs.declared.error.OpenError.TheVariants as errors
-use Rattle.perf_file.specs.declared.head.Head.{Head}
-use Rattle.perf_file.specs.declared.id_place.IdPlace.{IdPlace}
-use Rattle.perf_file.specs.declared.ids.IdOfEvent.{IdOfEvent}
-use Rattle.perf_file.specs.declared.section.Section.{Section}
+use Rattle.perf_sections.specs.declared.error.OpenError.{OpenError}
+use Rattle.perf_sections.specs.declared.error.OpenError.TheVariants as errors
+use Rattle.perf_sections.specs.declared.head.Head.{Head}
+use Rattle.perf_sections.specs.declared.id_place.IdPlace.{IdPlace}
+use Rattle.perf_sections.specs.declared.ids.IdOfEvent.{IdOfEvent}
+use Rattle.perf_sections.specs.declared.section.Section.{Section}
 use Rattle.perf_file.specs.declared.summary.Outline.{Outline}
 use Rattle.perf_flat.specs.FlatConfigs.{flat_config_of, is_valid}
 use Rattle.perf_flat.specs.declared.config.FlatConfig.{FlatConfig}

@@ -1,9 +1,9 @@
 -- Where a feature of a file is.
 use Rattle.std.specs.Prelude.{◌≡◌, ℕ, List, Option, Some, None, Result, Ok, Err}
 use Rattle.perf_file.specs.NotePlaces.{bytes_of}
-use Rattle.perf_file.specs.Sections.{IsInside}
+use Rattle.perf_sections.specs.Sections.{IsInside}
 use Rattle.perf_file.specs.declared.feature.BadFeature.{BadFeature}
-use Rattle.perf_file.specs.declared.section.Section.{Section}
+use Rattle.perf_sections.specs.declared.section.Section.{Section}
 
 -- The bytes of a feature are at the place that is written. Without one, or if it ends beyond the file,
 -- nothing is written, and the number of that is returned.

@@ -2,10 +2,10 @@
 use Rattle.std.specs.Prelude.{◌≡◌, ◌<◌, ℕ, List, [], ◌∷◌, length, map, slice_index_or}
 use Rattle.perf_base.specs.Order.{Order}
 use Rattle.perf_file.specs.Forms.{event_name}
-use Rattle.perf_file.specs.NamePlaces.{key_at, name_or}
-use Rattle.perf_file.specs.Names.{Name, name_with, name_text}
-use Rattle.perf_file.specs.Opened.{File, FileEvent}
-use Rattle.perf_file.specs.declared.descriptions.EventKey.{EventKey}
+use Rattle.perf_sections.specs.NamePlaces.{key_at, name_or}
+use Rattle.perf_sections.specs.Names.{Name, name_with, name_text}
+use Rattle.perf_sections.specs.Opened.{File, FileEvent}
+use Rattle.perf_sections.specs.declared.descriptions.EventKey.{EventKey}
 use Rattle.perf_event_c.specs.declared.file_events.FlatEvent.{FlatEvent}
 
 -- by what an event is found among descriptions: its type, its config, and its first id in these bytes

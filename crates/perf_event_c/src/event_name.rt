@@ -1,12 +1,12 @@
 //! The name of an event as text.
 
 ghost use Rattle.std.specs.Prelude.{◌≡◌, ◌++◌, ◌∷◌, [], ℕ, List, length, min};
-ghost use Rattle.perf_file.specs.Names as texts;
+ghost use Rattle.perf_sections.specs.Names as texts;
 ghost use Rattle.perf_event_c.specs.FlatNames as names;
 
 use crate::file_events::FlatEvent;
 use perf_file::EventName;
-use perf_file::naming::name_or;
+use perf_sections::naming::name_or;
 use perf_text::strip::Strip;
 
 // Writes a byte after what was written, if there is room, and returns where that ends.

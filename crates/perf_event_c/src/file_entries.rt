@@ -2,7 +2,7 @@
 
 ghost use Rattle.std.specs.Prelude.{◌≡◌, ◌-◌, ◌<◌, ◌≤◌, Ok, Some, MatchOption, option_map, slice_index_or, drop, length};
 ghost use Rattle.perf_file.specs.Forms.{opened};
-ghost use Rattle.perf_file.specs.Opened.{File};
+ghost use Rattle.perf_sections.specs.Opened.{File};
 ghost use Rattle.perf_file.specs.PipeOutlines.{form_outline};
 ghost use Rattle.perf_file.specs.declared.summary.Outline.{Outline};
 ghost use Rattle.perf_records.specs.Sights.{sight_of};
@@ -17,9 +17,9 @@ use crate::order::order_by;
 use perf_file::Owner;
 use perf_file::entries::{Timed, sort_by_time, time_in};
 use perf_file::finding::{Finder, first_in};
-use perf_file::ids::IdOfEvent;
 use perf_records::frame::Frame;
 use perf_records::frame_handler::BadFrame;
+use perf_sections::ids::IdOfEvent;
 
 /// When a frame happened, where it is, and which event it belongs to.
 #[repr(C)]

@@ -6,6 +6,7 @@
 
 pub use perf_base::{CowSlice, endian, sys};
 pub use perf_buffers::pieces::PieceBuf;
+pub use perf_counters::{GroupEntry, GroupIter, ReadGroup, ReadValue, TryFromGroupError};
 pub use perf_parser::{FrameRun, Run, RunEnd, each_frame, parse, read_records};
 pub use perf_records::frame::Frame;
 pub use perf_records::frame_handler::{BadFrame, FrameHandler};
@@ -21,9 +22,9 @@ pub use perf_sample_types::sample::Sample;
 pub use perf_sample_types::sample_fields::SampleFields;
 pub use perf_sample_types::sample_id::SampleId;
 pub use perf_types::{
-    Aux, AuxOutputHwId, BpfEvent, CGroup, Comm, Exit, Fork, GroupEntry, GroupIter, ITraceStart,
-    KSymbol, Lost, LostSamples, Mmap, Mmap2, MmapDetail, NamespaceEntry, Namespaces, Read,
-    ReadGroup, ReadValue, SwitchCpuWide, TextPoke, Throttle, TryFromGroupError,
+    Aux, AuxOutputHwId, BpfEvent, CGroup, Comm, Exit, Fork, ITraceStart, KSymbol, Lost,
+    LostSamples, Mmap, Mmap2, MmapDetail, NamespaceEntry, Namespaces, Read, SwitchCpuWide,
+    TextPoke, Throttle,
 };
 pub use perf_words::{
     AuxFlags, AuxPmuFormatType, BpfEventType, BranchEntry, BranchType, DataSource, KSymbolFlags,

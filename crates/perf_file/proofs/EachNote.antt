@@ -3,11 +3,11 @@ use Rattle.std.proofs.Common.{◌≡◌, ℕ, suc, ◌+◌, ◌≤◌, ◌<◌, 
 use Rattle.std.proofs.Math.ListN.{drop_of_length-le}
 use Rattle.std.proofs.lemmas.List.{append-nil, drop_more}
 use Rattle.perf_file.specs.NoteViews.{note_of}
-use Rattle.perf_file.specs.Opens.{◌>>=◌}
+use Rattle.perf_sections.specs.Opens.{◌>>=◌}
 use Rattle.perf_file.specs.Pipes.{FrameNote, each_of}
-use Rattle.perf_file.specs.declared.error.OpenError.{OpenError}
+use Rattle.perf_sections.specs.declared.error.OpenError.{OpenError}
 use Rattle.perf_file.specs.declared.note_frames.Note.{Note}
-use Rattle.perf_file.proofs.InTurn.{with_front, regroup}
+use Rattle.perf_sections.proofs.InTurn.{with_front, regroup}
 
 -- the note at an index is the first that is left
 pub here : (list : List Note) (i : ℕ) (x : Note) → i < length list → x ≡ get_or list i x → map note_of (drop i list) ≡ note_of x ∷ map note_of (drop (i + 1) list)

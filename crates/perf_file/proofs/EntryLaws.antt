@@ -1,8 +1,8 @@
 -- Events by their numbers.
 use Rattle.std.proofs.Common.{◌≡◌, ℕ, zero, suc, ◌≤◌, ◌<◌, List, [], ◌∷◌, length, map, get_or, Some, None, refl, arith}
 use Rattle.perf_file.specs.Entries.{event_at}
-use Rattle.perf_file.specs.Opened.{event_view}
-use Rattle.perf_file.specs.declared.events.Event.{Event}
+use Rattle.perf_sections.specs.Opened.{event_view}
+use Rattle.perf_sections.specs.declared.events.Event.{Event}
 
 pub event_there : (es : List Event) (n : ℕ) (d : Event) → n < length es → event_at (map event_view es) n ≡ Some (event_view (get_or es n d))
 event_there [] n d lt = absurd (omega (arith, lt))

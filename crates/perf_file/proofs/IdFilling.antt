@@ -3,9 +3,9 @@ use Rattle.std.proofs.Common.{◌≡◌, ℕ, suc, ◌-◌, ◌+◌, ◌*◌, �
 use Rattle.std.proofs.lemmas.List.{append_assoc, drop-drop}
 use Rattle.perf_base.specs.Layout.{words_of}
 use Rattle.perf_base.specs.Order.{Order}
-use Rattle.perf_file.specs.IdTables.{ids_of}
-use Rattle.perf_file.specs.declared.ids.IdOfEvent.{IdOfEvent}
-use Rattle.perf_file.proofs.Tables.{pair}
+use Rattle.perf_sections.specs.IdTables.{ids_of}
+use Rattle.perf_sections.specs.declared.ids.IdOfEvent.{IdOfEvent}
+use Rattle.perf_sections.proofs.Tables.{pair}
 
 pub ids_more : (o : Order) (bytes : List ℕ) (event : ℕ) (front : List IdOfEvent) (start count i n : ℕ) → i < count → n ≡ o.eight (take 8 (drop (start + 8 * i) bytes))
     → (front ++ pair n event ∷ []) ++ ids_of event (words_of o (count - (i + 1)) (drop (start + 8 * (i + 1)) bytes)) ≡ front ++ ids_of event (words_of o (count - i) (drop (start + 8 * i) bytes))

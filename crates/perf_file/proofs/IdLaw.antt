@@ -19,12 +19,12 @@ use Rattle.perf_sample_types.specs.SampleId.{one_if, sample_id_flags}
 use Rattle.perf_words.specs.Bits.{has_bit}
 use Rattle.perf_file.specs.DecidingIds.{IsLongEnough, DecidingIdIsRead}
 use Rattle.perf_file.specs.Entries.{event_at}
-use Rattle.perf_file.specs.IdPlaces.{field_size, if_at_end, place_of_id, id_place, is_same_place, first_place, all_at, checked_places, number_if, id_at}
-use Rattle.perf_file.specs.Opened.{FileEvent, attributes_of}
+use Rattle.perf_sections.specs.IdPlaces.{field_size, if_at_end, place_of_id, id_place, is_same_place, first_place, all_at, checked_places, number_if, id_at}
+use Rattle.perf_sections.specs.Opened.{FileEvent, attributes_of}
 use Rattle.perf_file.specs.Owners.{first_has_ids, id_if}
-use Rattle.perf_file.specs.declared.error.OpenError.{OpenError}
-use Rattle.perf_file.specs.declared.error.OpenError.TheVariants.{NoIdPlace}
-use Rattle.perf_file.specs.declared.id_place.IdPlace.{IdPlace}
+use Rattle.perf_sections.specs.declared.error.OpenError.{OpenError}
+use Rattle.perf_sections.specs.declared.error.OpenError.TheVariants.{NoIdPlace}
+use Rattle.perf_sections.specs.declared.id_place.IdPlace.{IdPlace}
 
 -- ---- two tests
 

@@ -3,15 +3,15 @@ use Rattle.std.proofs.Common.{◌≡◌, ◌⊎◌, inl, inr, ℕ, List, [], ◌
 use Rattle.perf_base.specs.Dynamic.{order_of}
 use Rattle.perf_base.specs.Order.{Order}
 use Rattle.perf_base.specs.declared.sys.perf_event_attr.{perf_event_attr}
-use Rattle.perf_file.specs.declared.error.OpenError.{OpenError}
-use Rattle.perf_file.specs.declared.head.Head.{Head}
-use Rattle.perf_file.specs.declared.section.Section.{Section}
-use Rattle.perf_file.specs.Attributes.{attribute_at, attributes_in}
-use Rattle.perf_file.specs.IdPlaces.{checked_places}
-use Rattle.perf_file.specs.IdSections.{id_section_at, id_sections_in, sections_of, checked_apart, entry_count}
-use Rattle.perf_file.specs.IdTables.{id_table, checked_table}
-use Rattle.perf_file.specs.Opened.{FileEvent, opened_file, checked_head, events_in, event_in, checked_events, file_with, attributes_of, table_of}
-use Rattle.perf_file.specs.Opens.{◌>>=◌}
+use Rattle.perf_sections.specs.declared.error.OpenError.{OpenError}
+use Rattle.perf_sections.specs.declared.head.Head.{Head}
+use Rattle.perf_sections.specs.declared.section.Section.{Section}
+use Rattle.perf_sections.specs.Attributes.{attribute_at, attributes_in}
+use Rattle.perf_sections.specs.IdPlaces.{checked_places}
+use Rattle.perf_sections.specs.IdSections.{id_section_at, id_sections_in, sections_of, checked_apart, entry_count}
+use Rattle.perf_sections.specs.IdTables.{id_table, checked_table}
+use Rattle.perf_sections.specs.Opened.{FileEvent, opened_file, checked_head, events_in, event_in, checked_events, file_with, attributes_of, table_of}
+use Rattle.perf_sections.specs.Opens.{◌>>=◌}
 use Rattle.perf_file.specs.Outlines.{outline, outline_with, checked_attributes, counted_ids, apart_parts, words_in, table_in}
 use Rattle.perf_file.proofs.Whole.{same_length}
 

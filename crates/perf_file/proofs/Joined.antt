@@ -8,7 +8,7 @@ use Rattle.perf_base.specs.Dynamic.{order_of}
 use Rattle.perf_base.specs.Order.{Order}
 use Rattle.perf_reader.specs.Headers.{frame_length}
 use Rattle.perf_records.specs.Sights.{Sight, sight_in}
-use Rattle.perf_file.specs.Opened.{File}
+use Rattle.perf_sections.specs.Opened.{File}
 use Rattle.perf_file.specs.Pieces.{Piece, AreTheData, piece_in, piece_bytes, pieces_of, after_piece, after_frame, first_pieces, drop_most, take_most, size_of, header_seen, payload_length}
 use Rattle.perf_file.proofs.Laws.{short, first, after_shorter, size_seen}
 

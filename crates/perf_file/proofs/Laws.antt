@@ -10,7 +10,7 @@ use Rattle.perf_records.specs.Sights.{Sight, sight_in, sight_after}
 use Rattle.perf_records.specs.FrameList.{sights}
 use Rattle.perf_records.proofs.FrameList.{next_sight, no_sight}
 use Rattle.perf_base.specs.Dynamic.{order_of}
-use Rattle.perf_file.specs.Opened.{File}
+use Rattle.perf_sections.specs.Opened.{File}
 use Rattle.perf_file.specs.Owners.{owner_of_sight}
 use Rattle.perf_file.specs.Pieces.{Piece, piece_in, place_in, after_piece, after_frame, first_pieces, pieces, drop_most, take_most, size_of, header_seen, payload_length}
 use Rattle.perf_file.specs.declared.owning.Owner.{Owner}

@@ -1,14 +1,7 @@
-pub mod InTurn
-pub mod Sweeping
-pub mod Words
-pub mod Zipped
-pub mod Tables
-pub mod Rising
 pub mod AttributeLaws
 pub mod Whole
 pub mod Laws
 pub mod EntryLaws
-pub mod NamePlacing
 pub mod IdLaw
 pub mod Joined
 pub mod Stepping

@@ -4,13 +4,13 @@ use Rattle.std.proofs.Common.{◌≡◌, ℕ, ◌<◌, List, [], ◌∷◌, Bool
 use Rattle.std.proofs.lemmas.Bool.{eqb-true, eq-eqb}
 use Rattle.std.proofs.lemmas.List.{length-map, get_or-map}
 use Rattle.perf_base.specs.Order.{Order}
-use Rattle.perf_file.specs.IdTables.{event_of, is_event}
-use Rattle.perf_file.specs.Names.{Name, described, name_view}
-use Rattle.perf_file.specs.Numbers.{number}
-use Rattle.perf_file.specs.Opened.{FileEvent, event_view, table_of}
+use Rattle.perf_sections.specs.IdTables.{event_of, is_event}
+use Rattle.perf_sections.specs.Names.{Name, described, name_view}
+use Rattle.perf_sections.specs.Numbers.{number}
+use Rattle.perf_sections.specs.Opened.{FileEvent, event_view, table_of}
 use Rattle.perf_file.specs.Pipes.{FrameNote, newer, named_by, named_event, new_name, last_name, has_name}
-use Rattle.perf_file.specs.declared.events.Event.{Event}
-use Rattle.perf_file.specs.declared.ids.IdOfEvent.{IdOfEvent}
+use Rattle.perf_sections.specs.declared.events.Event.{Event}
+use Rattle.perf_sections.specs.declared.ids.IdOfEvent.{IdOfEvent}
 
 -- the newer of two names
 by_newer : (a b : Option (List ℕ)) (n : Name) → named_by (newer a b) n ≡ named_by a (named_by b n)

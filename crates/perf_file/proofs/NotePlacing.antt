@@ -11,11 +11,11 @@ use Rattle.perf_base.specs.Order.{Order}
 use Rattle.perf_base.specs.declared.endian.Dynamic.{Dynamic}
 use Rattle.perf_reader.specs.Headers.{frame_length}
 use Rattle.perf_records.specs.Sights.{sight_in}
-use Rattle.perf_file.specs.Descriptions.{zero_at}
+use Rattle.perf_sections.specs.Descriptions.{zero_at}
 use Rattle.perf_file.specs.Forms.{feature_of, notes_of}
-use Rattle.perf_file.specs.NamePlaces.{name_at}
+use Rattle.perf_sections.specs.NamePlaces.{name_at}
 use Rattle.perf_file.specs.NotePlaces.{IsPlaced}
-use Rattle.perf_file.specs.Numbers.{number}
+use Rattle.perf_sections.specs.Numbers.{number}
 use Rattle.perf_file.specs.Pieces.{piece_in, after_piece, after_frame, first_pieces, payload_length, drop_most}
 use Rattle.perf_file.specs.Pipes.{FrameNote, note_in, body_seen, pipe_with, is_of, is_note, all_frames, pipe_order, newer, own_feature, noted_feature, has_name, new_name}
 use Rattle.perf_file.proofs.Laws.{short, first}

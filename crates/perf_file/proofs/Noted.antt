@@ -9,7 +9,7 @@ use Rattle.perf_base.specs.Order.{Order}
 use Rattle.perf_base.specs.declared.sys.perf_event_header.{perf_event_header}
 use Rattle.perf_records.specs.Answers.{length_after}
 use Rattle.perf_records.specs.Sights.{Sight, sight_in, sight_after}
-use Rattle.perf_file.specs.Opened.{File}
+use Rattle.perf_sections.specs.Opened.{File}
 use Rattle.perf_file.specs.Pieces.{Piece, pieces, piece_in, after_piece}
 use Rattle.perf_file.specs.Pipes.{FrameNote, note_in, newer, body_seen}
 use Rattle.perf_file.proofs.Laws.{some_piece, no_piece}

@@ -13,16 +13,16 @@ use Rattle.perf_base.specs.declared.sys.perf_event_header.{perf_event_header}
 use Rattle.perf_reader.specs.Headers.{frame_length}
 use Rattle.perf_records.specs.Answers.{length_after}
 use Rattle.perf_records.specs.Sights.{Sight, sight_in, sight_after}
-use Rattle.perf_file.specs.IdSections.{checked_ids}
-use Rattle.perf_file.specs.Opened.{File}
-use Rattle.perf_file.specs.Opens.{◌>>=◌}
+use Rattle.perf_sections.specs.IdSections.{checked_ids}
+use Rattle.perf_sections.specs.Opened.{File}
+use Rattle.perf_sections.specs.Opens.{◌>>=◌}
 use Rattle.perf_file.specs.Outlines.{ids_in, id_count}
 use Rattle.perf_file.specs.Pieces.{piece_in, after_piece, after_frame, first_pieces, size_of, header_seen, payload_length}
 use Rattle.perf_file.specs.PipeOutlines.{from_notes, note_sections}
 use Rattle.perf_file.specs.Pipes.{FrameNote, note_in, body_seen, pipe_with, is_of, is_compressed, all_frames, each_of, noted_ids, attribute_size, attribute_bytes, id_bytes}
-use Rattle.perf_file.specs.Sections.{is_inside}
-use Rattle.perf_file.specs.declared.error.OpenError.{OpenError}
-use Rattle.perf_file.specs.declared.section.Section.{Section}
+use Rattle.perf_sections.specs.Sections.{is_inside}
+use Rattle.perf_sections.specs.declared.error.OpenError.{OpenError}
+use Rattle.perf_sections.specs.declared.section.Section.{Section}
 use Rattle.perf_file.proofs.Laws.{length-drop_most, header_after, size_is, size_seen, short, first}
 use Rattle.perf_file.proofs.Noted.{body_there}
 use Rattle.perf_file.proofs.Stepping.{regroup}

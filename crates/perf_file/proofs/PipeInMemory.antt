@@ -7,16 +7,16 @@ use Rattle.perf_base.specs.Dynamic.{order_of}
 use Rattle.perf_base.specs.declared.endian.Dynamic.{Dynamic}
 use Rattle.perf_base.specs.declared.sys.perf_event_attr.{perf_event_attr}
 use Rattle.perf_file.specs.Forms.{opened}
-use Rattle.perf_file.specs.IdPlaces.{checked_places}
-use Rattle.perf_file.specs.IdTables.{id_table, checked_table}
-use Rattle.perf_file.specs.Opened.{File, FileEvent, opened_file, event_in, checked_events, table_of}
-use Rattle.perf_file.specs.Opens.{◌>>=◌}
+use Rattle.perf_sections.specs.IdPlaces.{checked_places}
+use Rattle.perf_sections.specs.IdTables.{id_table, checked_table}
+use Rattle.perf_sections.specs.Opened.{File, FileEvent, opened_file, event_in, checked_events, table_of}
+use Rattle.perf_sections.specs.Opens.{◌>>=◌}
 use Rattle.perf_file.specs.Outlines.{outline, id_count, table_in}
 use Rattle.perf_file.specs.PipeOutlines.{pipe_outline, pipe_outline_with, pipe_head, form_outline, checked_frames, checked_number, counted_attributes, counted_note_ids, note_sections}
 use Rattle.perf_file.specs.Pipes.{FrameNote, pipe_order, pipe_with, is_of, is_note, is_compressed, all_frames, checked_notes, checked_count, each_of, noted_attribute, noted_ids, found_events, opened_pipe}
-use Rattle.perf_file.specs.declared.error.OpenError.{OpenError}
-use Rattle.perf_file.specs.declared.error.OpenError.TheVariants as errors
-use Rattle.perf_file.specs.declared.section.Section.{Section}
+use Rattle.perf_sections.specs.declared.error.OpenError.{OpenError}
+use Rattle.perf_sections.specs.declared.error.OpenError.TheVariants as errors
+use Rattle.perf_sections.specs.declared.section.Section.{Section}
 use Rattle.perf_file.specs.declared.summary.Outline.{Outline}
 use Rattle.perf_file.proofs.EachNote.{each_length, same_length}
 use Rattle.perf_file.proofs.InMemory.{outline_refused, again, attributes_zip, ids_zip}

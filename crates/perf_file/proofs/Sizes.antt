@@ -3,9 +3,9 @@ use Rattle.std.proofs.Common.{◌≡◌, ℕ, zero, suc, ◌+◌, ◌-◌, ◌*�
 use Rattle.std.specs.List.{count_by, sum_by}
 use Rattle.std.proofs.lemmas.Bool.Decides.{nat_tests}
 use Rattle.std.proofs.lemmas.List.Sums.{sum_by-cons}
-use Rattle.perf_file.specs.declared.section.Section.{Section}
+use Rattle.perf_sections.specs.declared.section.Section.{Section}
 use Rattle.perf_file.specs.Outlines.{ids_in, id_count}
-use Rattle.perf_file.specs.Sections.{covers, ShareNothing, IsInside}
+use Rattle.perf_sections.specs.Sections.{covers, ShareNothing, IsInside}
 
 -- the sum of the first n values
 abbrev tally : (ℕ → ℕ) → ℕ → ℕ

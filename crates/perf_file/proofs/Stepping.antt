@@ -2,11 +2,11 @@
 use Rattle.std.proofs.Common.{◌≡◌, ℕ, suc, ◌-◌, ◌+◌, ◌/◌, ◌≤◌, ◌<◌, List, [], ◌∷◌, ◌++◌, take, set, length, Result, Ok, Err, OnOk, min, refl, sym, ap, subst, ◌∙◌, arith}
 use Rattle.std.proofs.lemmas.List.{append_assoc, length-set}
 use Rattle.std.proofs.lemmas.List.Sums.{sum_by-cons}
-use Rattle.perf_file.specs.declared.error.OpenError.{OpenError}
-use Rattle.perf_file.specs.declared.section.Section.{Section}
+use Rattle.perf_sections.specs.declared.error.OpenError.{OpenError}
+use Rattle.perf_sections.specs.declared.section.Section.{Section}
 use Rattle.perf_file.specs.Filled.{Fills}
-use Rattle.perf_file.specs.Sections.{ShareNothing}
-use Rattle.perf_file.specs.Opens.{◌>>=◌, each_from}
+use Rattle.perf_sections.specs.Sections.{ShareNothing}
+use Rattle.perf_sections.specs.Opens.{◌>>=◌, each_from}
 use Rattle.perf_file.specs.Outlines.{ids_in, id_count}
 
 pub regroup : {A B : Type 0} (x : A) (k : List A → Result B OpenError) (read : Result (List A) OpenError) → ((read >>= λ xs. Ok (x ∷ xs)) >>= k) ≡ (read >>= λ xs. k (x ∷ xs))

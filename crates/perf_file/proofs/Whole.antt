@@ -4,16 +4,16 @@ use Rattle.std.proofs.lemmas.List.Elements.{All-cons}
 use Rattle.std.specs.List.{zip}
 use Rattle.perf_base.specs.Dynamic.{order_of}
 use Rattle.perf_base.specs.declared.sys.perf_event_attr.{perf_event_attr}
-use Rattle.perf_file.specs.declared.section.Section.{Section}
-use Rattle.perf_file.specs.declared.head.Head.{Head}
-use Rattle.perf_file.specs.declared.error.OpenError.{OpenError}
-use Rattle.perf_file.specs.declared.error.OpenError.TheVariants as errors
-use Rattle.perf_file.specs.Attributes.{attributes_in}
-use Rattle.perf_file.specs.Heads.{IsGoodHead}
-use Rattle.perf_file.specs.IdSections.{id_sections_in, sections_of, checked_apart}
-use Rattle.perf_file.specs.Opened.{FileEvent, opened_file, checked_head, events_in, event_in, checked_events, file_with}
-use Rattle.perf_file.specs.Opens.{◌>>=◌, each_from, Fails}
-use Rattle.perf_file.specs.Sections.{IsInside, IsSmall}
+use Rattle.perf_sections.specs.declared.section.Section.{Section}
+use Rattle.perf_sections.specs.declared.head.Head.{Head}
+use Rattle.perf_sections.specs.declared.error.OpenError.{OpenError}
+use Rattle.perf_sections.specs.declared.error.OpenError.TheVariants as errors
+use Rattle.perf_sections.specs.Attributes.{attributes_in}
+use Rattle.perf_sections.specs.Heads.{IsGoodHead}
+use Rattle.perf_sections.specs.IdSections.{id_sections_in, sections_of, checked_apart}
+use Rattle.perf_sections.specs.Opened.{FileEvent, opened_file, checked_head, events_in, event_in, checked_events, file_with}
+use Rattle.perf_sections.specs.Opens.{◌>>=◌, each_from, Fails}
+use Rattle.perf_sections.specs.Sections.{IsInside, IsSmall}
 
 -- ---- refusals
 

@@ -6,11 +6,11 @@ use Rattle.perf_base.specs.Dynamic.{order_of}
 use Rattle.perf_base.specs.Layout.{slice}
 use Rattle.perf_base.specs.Order.{Order}
 use Rattle.perf_base.specs.declared.endian.Dynamic.{Dynamic}
-use Rattle.perf_file.specs.Descriptions.{before_zero}
+use Rattle.perf_sections.specs.Descriptions.{before_zero}
 use Rattle.perf_file.specs.Forms.{feature_of, notes_of}
 use Rattle.perf_file.specs.FeatureTexts.{then_read}
 use Rattle.perf_file.specs.NoteViews.{note_of}
-use Rattle.perf_file.specs.Numbers.{small_number}
+use Rattle.perf_sections.specs.Numbers.{small_number}
 use Rattle.perf_file.specs.Pipes.{FrameNote, is_of}
 use Rattle.perf_file.specs.declared.build_ids.BuildId.{BuildId}
 use Rattle.perf_file.specs.declared.build_ids.BuildIds.{BuildIds}

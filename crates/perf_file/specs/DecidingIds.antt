@@ -9,8 +9,8 @@ use Rattle.perf_records.specs.FrameNumbers.{IsRead, IsIdentifierRead}
 use Rattle.perf_records.specs.Metadata.{id_length}
 use Rattle.perf_sample_types.specs.SampleGetters.{getters_of}
 use Rattle.perf_file.specs.Entries.{event_at}
-use Rattle.perf_file.specs.IdPlaces.{checked_places}
-use Rattle.perf_file.specs.Opened.{File, FileEvent, attributes_of}
+use Rattle.perf_sections.specs.IdPlaces.{checked_places}
+use Rattle.perf_sections.specs.Opened.{File, FileEvent, attributes_of}
 use Rattle.perf_file.specs.Owners.{is_of_first, id_in}
 use Rattle.perf_words.specs.Bits.{has_bit}
 

@@ -8,7 +8,7 @@ use Rattle.perf_base.specs.Dynamic.{order_of}
 use Rattle.perf_base.specs.Order.{Order}
 use Rattle.perf_records.specs.FrameNumbers.{time_in}
 use Rattle.perf_records.specs.Sights.{Sight, whole, bad}
-use Rattle.perf_file.specs.Opened.{File, FileEvent}
+use Rattle.perf_sections.specs.Opened.{File, FileEvent}
 use Rattle.perf_file.specs.Pieces.{Piece, pieces_of}
 use Rattle.perf_file.specs.declared.entries.Entry.{Entry}
 use Rattle.perf_file.specs.declared.owning.Owner.{Owner}

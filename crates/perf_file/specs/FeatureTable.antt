@@ -4,13 +4,13 @@ use Rattle.std.specs.Prelude.{ℕ, zero, suc, ◌+◌, ◌*◌, ◌/◌, ◌%◌
 use Rattle.perf_base.specs.Dynamic.{order_of}
 use Rattle.perf_base.specs.Layout.{slice}
 use Rattle.perf_base.specs.Order.{Order}
-use Rattle.perf_file.specs.Numbers.{number}
-use Rattle.perf_file.specs.Opened.{checked_head}
-use Rattle.perf_file.specs.Sections.{section_at, is_inside}
+use Rattle.perf_sections.specs.Numbers.{number}
+use Rattle.perf_sections.specs.Opened.{checked_head}
+use Rattle.perf_sections.specs.Sections.{section_at, is_inside}
 use Rattle.perf_file.specs.declared.feature.BadFeature.{BadFeature}
 use Rattle.perf_file.specs.declared.feature.BadFeature.TheVariants.{PastEnd}
-use Rattle.perf_file.specs.declared.head.Head.{Head}
-use Rattle.perf_file.specs.declared.section.Section.{Section}
+use Rattle.perf_sections.specs.declared.head.Head.{Head}
+use Rattle.perf_sections.specs.declared.section.Section.{Section}
 use Rattle.perf_words.specs.Bits.{has_bit}
 
 -- whether the head has the bit of a feature: of the number k, bit k % 64 of the number k / 64

@@ -4,9 +4,9 @@ use Rattle.perf_base.specs.Dynamic.{order_of}
 use Rattle.perf_base.specs.Layout.{slice}
 use Rattle.perf_base.specs.Order.{Order}
 use Rattle.perf_base.specs.declared.endian.Dynamic.{Dynamic}
-use Rattle.perf_file.specs.Descriptions.{before_zero}
+use Rattle.perf_sections.specs.Descriptions.{before_zero}
 use Rattle.perf_file.specs.Forms.{feature_of}
-use Rattle.perf_file.specs.Numbers.{number, small_number}
+use Rattle.perf_sections.specs.Numbers.{number, small_number}
 use Rattle.perf_file.specs.declared.feature.BadFeature.{BadFeature}
 use Rattle.perf_file.specs.declared.feature.BadFeature.TheVariants as bad
 use Rattle.perf_file.specs.declared.header_texts.SampleTimes.{SampleTimes}

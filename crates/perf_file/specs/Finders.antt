@@ -1,12 +1,12 @@
 -- How the event of a frame is found by ids in memory of the caller's.
 use Rattle.std.specs.Prelude.{◌≡◌, ℕ, List, length, nat_lt}
 use Rattle.std.specs.List.Sorted.{IsNonDecreasingBy}
-use Rattle.perf_file.specs.IdPlaces.{first_place}
-use Rattle.perf_file.specs.IdTables.{event_of}
-use Rattle.perf_file.specs.Opened.{File, attributes_of, table_of}
+use Rattle.perf_sections.specs.IdPlaces.{first_place}
+use Rattle.perf_sections.specs.IdTables.{event_of}
+use Rattle.perf_sections.specs.Opened.{File, attributes_of, table_of}
 use Rattle.perf_file.specs.Owners.{first_has_ids}
 use Rattle.perf_file.specs.declared.finding.Finder.{Finder}
-use Rattle.perf_file.specs.declared.ids.IdOfEvent.{IdOfEvent}
+use Rattle.perf_sections.specs.declared.ids.IdOfEvent.{IdOfEvent}
 
 -- a table of a file's ids by rising ids
 pub record IsTableOf (f : File) (ids : List IdOfEvent) : Type 0 where

@@ -3,11 +3,11 @@ use Rattle.std.specs.Prelude.{ℕ, List, [], drop, Option, Some, None, Result, O
 use Rattle.std.specs.List.{filter}
 use Rattle.perf_base.specs.Dynamic.{order_of}
 use Rattle.perf_file.specs.FeatureTable.{file_feature_of}
-use Rattle.perf_file.specs.Features.{file_descriptions}
-use Rattle.perf_file.specs.Names.{Name, name_of}
-use Rattle.perf_file.specs.Opened.{File, FileEvent, opened_file, table_of}
+use Rattle.perf_sections.specs.Features.{file_descriptions}
+use Rattle.perf_sections.specs.Names.{Name, name_of}
+use Rattle.perf_sections.specs.Opened.{File, FileEvent, opened_file, table_of}
 use Rattle.perf_file.specs.Pipes.{FrameNote, pipe_order, is_note, all_frames, noted_feature, noted_name, opened_pipe}
-use Rattle.perf_file.specs.declared.error.OpenError.{OpenError}
+use Rattle.perf_sections.specs.declared.error.OpenError.{OpenError}
 use Rattle.perf_file.specs.declared.feature.BadFeature.{BadFeature}
 
 -- what opening returns: what it contains, or the first check that fails

@@ -2,7 +2,7 @@
 use Rattle.std.specs.Prelude.{◌≡◌, ◌+◌, ◌≤◌, ℕ, List, length}
 use Rattle.perf_base.specs.Layout.{slice}
 use Rattle.perf_file.specs.Pipes.{FrameNote}
-use Rattle.perf_file.specs.declared.section.Section.{Section}
+use Rattle.perf_sections.specs.declared.section.Section.{Section}
 
 -- the bytes of a part
 abbrev pub bytes_of : List ℕ → Section → List ℕ

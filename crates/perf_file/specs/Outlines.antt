@@ -3,15 +3,15 @@ use Rattle.std.specs.Prelude.{ℕ, ◌/◌, List, Result, Ok, length, min, map, 
 use Rattle.std.specs.List.{sum_by}
 use Rattle.perf_base.specs.Layout.{words_of}
 use Rattle.perf_base.specs.Order.{Order}
-use Rattle.perf_file.specs.Attributes.{attributes_in}
-use Rattle.perf_file.specs.IdSections.{id_sections_in, entry_count, sections_of, checked_apart}
-use Rattle.perf_file.specs.IdTables.{id_table}
-use Rattle.perf_file.specs.Opened.{checked_head}
-use Rattle.perf_file.specs.Opens.{◌>>=◌}
-use Rattle.perf_file.specs.declared.error.OpenError.{OpenError}
-use Rattle.perf_file.specs.declared.head.Head.{Head}
-use Rattle.perf_file.specs.declared.ids.IdOfEvent.{IdOfEvent}
-use Rattle.perf_file.specs.declared.section.Section.{Section}
+use Rattle.perf_sections.specs.Attributes.{attributes_in}
+use Rattle.perf_sections.specs.IdSections.{id_sections_in, entry_count, sections_of, checked_apart}
+use Rattle.perf_sections.specs.IdTables.{id_table}
+use Rattle.perf_sections.specs.Opened.{checked_head}
+use Rattle.perf_sections.specs.Opens.{◌>>=◌}
+use Rattle.perf_sections.specs.declared.error.OpenError.{OpenError}
+use Rattle.perf_sections.specs.declared.head.Head.{Head}
+use Rattle.perf_sections.specs.declared.ids.IdOfEvent.{IdOfEvent}
+use Rattle.perf_sections.specs.declared.section.Section.{Section}
 use Rattle.perf_file.specs.declared.summary.Outline.{Outline}
 
 -- how many ids a section has

@@ -4,11 +4,11 @@ use Rattle.perf_base.specs.Configuration.{configured_by}
 use Rattle.perf_base.specs.Dynamic.{order_of}
 use Rattle.perf_base.specs.declared.sys.perf_event_attr.{perf_event_attr}
 use Rattle.perf_records.specs.Sights.{Sight, whole, bad}
-use Rattle.perf_file.specs.IdPlaces.{first_place, id_at}
-use Rattle.perf_file.specs.IdTables.{event_of}
-use Rattle.perf_file.specs.Opened.{File, attributes_of, table_of}
-use Rattle.perf_file.specs.declared.id_place.IdPlace.{IdPlace}
-use Rattle.perf_file.specs.declared.ids.IdOfEvent.{IdOfEvent}
+use Rattle.perf_sections.specs.IdPlaces.{first_place, id_at}
+use Rattle.perf_sections.specs.IdTables.{event_of}
+use Rattle.perf_sections.specs.Opened.{File, attributes_of, table_of}
+use Rattle.perf_sections.specs.declared.id_place.IdPlace.{IdPlace}
+use Rattle.perf_sections.specs.declared.ids.IdOfEvent.{IdOfEvent}
 use Rattle.perf_file.specs.declared.owning.Owner.{Owner}
 use Rattle.perf_file.specs.declared.owning.Owner.TheVariants as owner
 

@@ -1,7 +1,7 @@
 -- Whether payloads are whole.
 use Rattle.std.specs.Prelude.{Bool, length, nat_le}
 use Rattle.perf_base.specs.Dynamic.{order_of}
-use Rattle.perf_file.specs.Opened.{File}
+use Rattle.perf_sections.specs.Opened.{File}
 use Rattle.perf_file.specs.Pieces.{Piece, payload_length}
 
 -- whether the payload that a frame announces is all there

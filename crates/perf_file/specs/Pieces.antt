@@ -5,7 +5,7 @@ use Rattle.perf_base.specs.Order.{Order}
 use Rattle.perf_base.specs.declared.sys.perf_event_header.{perf_event_header}
 use Rattle.perf_reader.specs.Headers.{frame_length}
 use Rattle.perf_records.specs.Sights.{Sight, whole, bad, sight_of, sight_in}
-use Rattle.perf_file.specs.Opened.{File}
+use Rattle.perf_sections.specs.Opened.{File}
 use Rattle.perf_file.specs.Owners.{owner_of_sight}
 use Rattle.perf_file.specs.declared.listing.FileFrame.{FileFrame}
 use Rattle.perf_file.specs.declared.owning.Owner.{Owner}

@@ -2,13 +2,13 @@
 use Rattle.std.specs.Prelude.{ℕ, ◌-◌, ◌/◌, ◌==◌, true, List, length, drop, min, Some, None, Result, Ok, Err, if◌then◌else◌}
 use Rattle.std.specs.List.{filter, list_any}
 use Rattle.perf_base.specs.declared.endian.Dynamic.{Dynamic}
-use Rattle.perf_file.specs.Opens.{◌>>=◌}
+use Rattle.perf_sections.specs.Opens.{◌>>=◌}
 use Rattle.perf_file.specs.Outlines.{id_count, outline}
 use Rattle.perf_file.specs.Pipes.{FrameNote, pipe_order, is_of, is_compressed, all_frames, each_of, noted_attribute, noted_ids}
-use Rattle.perf_file.specs.declared.error.OpenError.{OpenError}
-use Rattle.perf_file.specs.declared.error.OpenError.TheVariants as errors
-use Rattle.perf_file.specs.declared.head.Head.{Head}
-use Rattle.perf_file.specs.declared.section.Section.{Section}
+use Rattle.perf_sections.specs.declared.error.OpenError.{OpenError}
+use Rattle.perf_sections.specs.declared.error.OpenError.TheVariants as errors
+use Rattle.perf_sections.specs.declared.head.Head.{Head}
+use Rattle.perf_sections.specs.declared.section.Section.{Section}
 use Rattle.perf_file.specs.declared.summary.Outline.{Outline}
 
 -- what is made of a result, or its refusal

@@ -9,21 +9,21 @@ use Rattle.perf_base.specs.declared.endian.Dynamic.TheVariants.{Little}
 use Rattle.perf_base.specs.declared.sys.perf_event_attr.{perf_event_attr}
 use Rattle.perf_base.specs.declared.sys.perf_event_header.{perf_event_header}
 use Rattle.perf_records.specs.Sights.{Sight, whole, bad}
-use Rattle.perf_file.specs.Attributes.{attribute_in, of_event}
-use Rattle.perf_file.specs.Descriptions.{before_zero}
-use Rattle.perf_file.specs.Features.{or_nothing}
-use Rattle.perf_file.specs.Heads.{order_by}
-use Rattle.perf_file.specs.IdSections.{checked_ids}
-use Rattle.perf_file.specs.IdTables.{event_of, is_event}
-use Rattle.perf_file.specs.Names.{Name, described, name_of}
-use Rattle.perf_file.specs.Numbers.{number, small_number}
-use Rattle.perf_file.specs.Opened.{File, FileEvent, event_in, checked_events}
-use Rattle.perf_file.specs.Opens.{◌>>=◌}
+use Rattle.perf_sections.specs.Attributes.{attribute_in, of_event}
+use Rattle.perf_sections.specs.Descriptions.{before_zero}
+use Rattle.perf_sections.specs.Features.{or_nothing}
+use Rattle.perf_sections.specs.Heads.{order_by}
+use Rattle.perf_sections.specs.IdSections.{checked_ids}
+use Rattle.perf_sections.specs.IdTables.{event_of, is_event}
+use Rattle.perf_sections.specs.Names.{Name, described, name_of}
+use Rattle.perf_sections.specs.Numbers.{number, small_number}
+use Rattle.perf_sections.specs.Opened.{File, FileEvent, event_in, checked_events}
+use Rattle.perf_sections.specs.Opens.{◌>>=◌}
 use Rattle.perf_file.specs.Pieces.{Piece, header_seen, pieces_of, take_most, drop_most}
-use Rattle.perf_file.specs.declared.error.OpenError.{OpenError}
-use Rattle.perf_file.specs.declared.error.OpenError.TheVariants as errors
-use Rattle.perf_file.specs.declared.ids.IdOfEvent.{IdOfEvent}
-use Rattle.perf_file.specs.declared.section.Section.{Section}
+use Rattle.perf_sections.specs.declared.error.OpenError.{OpenError}
+use Rattle.perf_sections.specs.declared.error.OpenError.TheVariants as errors
+use Rattle.perf_sections.specs.declared.ids.IdOfEvent.{IdOfEvent}
+use Rattle.perf_sections.specs.declared.section.Section.{Section}
 
 -- ---- the head
 

@@ -1,6 +1,6 @@
 -- A file that was opened.
 use Rattle.std.specs.Prelude.{map}
-use Rattle.perf_file.specs.Opened.{File, event_view}
+use Rattle.perf_sections.specs.Opened.{File, event_view}
 use Rattle.perf_file.specs.declared.opening.Recording.{Recording}
 
 -- what it contains

@@ -5,19 +5,19 @@ ghost use Rattle.perf_base.specs.Attribute.{attribute};
 ghost use Rattle.perf_base.specs.Dynamic.{order_of};
 ghost use Rattle.perf_base.specs.Layout.{layout};
 ghost use Rattle.perf_base.specs.Refusals.{refusal_kind};
-ghost use Rattle.perf_file.specs.Attributes as attributes;
-ghost use Rattle.perf_file.specs.Heads.{IsGoodHead};
-ghost use Rattle.perf_file.specs.IdSections.{entry_count};
-ghost use Rattle.perf_file.specs.Opens.{Gives};
+ghost use Rattle.perf_sections.specs.Attributes as attributes;
+ghost use Rattle.perf_sections.specs.Heads.{IsGoodHead};
+ghost use Rattle.perf_sections.specs.IdSections.{entry_count};
+ghost use Rattle.perf_sections.specs.Opens.{Gives};
 
-use crate::error::OpenError;
-use crate::head::Head;
-use crate::number::bytes_at;
 use perf_base::endian::{Dynamic, Native};
 use perf_base::sys::perf_event_attr;
 use perf_base::{ErrorKind, ParseConfig, Refusal};
 use perf_reader::read::ReadFrom;
 use perf_reader::reader::Reader;
+use perf_sections::error::OpenError;
+use perf_sections::head::Head;
+use perf_sections::number::bytes_at;
 use std::alloc::Global;
 
 // The attribute at the front of bytes.

@@ -10,14 +10,14 @@ ghost use Rattle.perf_file.specs.FeatureTexts.{then_read};
 ghost use Rattle.perf_file.specs.Forms.{feature_of};
 ghost use Rattle.perf_file.specs.NoteViews.{note_of};
 
-use crate::descriptions::before_zero;
 use crate::feature::{BadFeature, Feature};
 use crate::note_frames::Note;
 use crate::noting::HEADER_BUILD_ID;
-use crate::number::{bytes_at, small_number_at};
 use crate::opening::Recording;
 use perf_base::Endian;
 use perf_base::endian::Dynamic;
+use perf_sections::descriptions::before_zero;
+use perf_sections::number::{bytes_at, small_number_at};
 
 /// The build id of a file that was mapped, by which the same bytes are recognized.
 #[derive(Copy, Clone, Debug)]

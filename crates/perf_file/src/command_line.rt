@@ -5,10 +5,10 @@ ghost use Rattle.std.specs.Iterator.{YieldsFirstBy, item_count};
 ghost use Rattle.perf_base.specs.Dynamic.{order_of};
 ghost use Rattle.perf_file.specs.FeatureTexts as texts;
 
-use crate::descriptions::before_zero;
 use crate::feature::BadFeature;
-use crate::number::{bytes_at, small_number_at};
 use perf_base::endian::Dynamic;
+use perf_sections::descriptions::before_zero;
+use perf_sections::number::{bytes_at, small_number_at};
 
 /// The words of a command, each once, in order: an iterator over their bytes. Made by
 /// [`Recording::command_line`](crate::Recording::command_line).

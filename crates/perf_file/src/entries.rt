@@ -11,7 +11,6 @@ ghost use Rattle.perf_file.specs.Entries as entries;
 ghost use Rattle.perf_file.specs.Pieces.{piece_of};
 ghost use Rattle.perf_file.specs.Views.{view};
 
-use crate::events::Event;
 use crate::listing::FileFrame;
 use crate::opening::Recording;
 use crate::owning::Owner;
@@ -19,6 +18,7 @@ use perf_base::endian::Dynamic;
 use perf_base::{Endian, ParseConfig};
 use perf_records::frame::Frame;
 use perf_records::frame_handler::BadFrame;
+use perf_sections::events::Event;
 use std::alloc::{AllocError, Global};
 use std::cmp::Ordering;
 

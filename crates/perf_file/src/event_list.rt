@@ -3,24 +3,24 @@
 ghost use Rattle.std.specs.Prelude.{◌≡◌, ◌≤◌, ℕ, List, Ok, IfOk, OnOk, All, length, map};
 ghost use Rattle.std.specs.List.Sorted.{IsNonDecreasingBy};
 ghost use Rattle.perf_base.specs.Configured.{endian_of};
-ghost use Rattle.perf_file.specs.Features.{descriptions_of};
-ghost use Rattle.perf_file.specs.Heads.{IsGoodHead, head_in};
-ghost use Rattle.perf_file.specs.IdTables as tables;
-ghost use Rattle.perf_file.specs.Names as names;
-ghost use Rattle.perf_file.specs.Opened as opens;
-ghost use Rattle.perf_file.specs.Opens.{Gives};
-ghost use Rattle.perf_file.specs.declared.events.Event.{Event};
-ghost use Rattle.perf_file.specs.declared.ids.IdOfEvent.{IdOfEvent};
-ghost use Rattle.perf_file.specs.declared.section.Section.{Section};
+ghost use Rattle.perf_sections.specs.Features.{descriptions_of};
+ghost use Rattle.perf_sections.specs.Heads.{IsGoodHead, head_in};
+ghost use Rattle.perf_sections.specs.IdTables as tables;
+ghost use Rattle.perf_sections.specs.Names as names;
+ghost use Rattle.perf_sections.specs.Opened as opens;
+ghost use Rattle.perf_sections.specs.Opens.{Gives};
+ghost use Rattle.perf_sections.specs.declared.events.Event.{Event};
+ghost use Rattle.perf_sections.specs.declared.ids.IdOfEvent.{IdOfEvent};
+ghost use Rattle.perf_sections.specs.declared.section.Section.{Section};
 
 use crate::attributes::attributes_of;
-use crate::error::OpenError;
-use crate::events::Event;
-use crate::features::find_descriptions;
-use crate::head::{Head, check_features, check_parts, head_of};
-use crate::id_sections::{check_apart, id_sections_of, sections_of};
-use crate::ids::{IdOfEvent, least_shared};
-use crate::reading::{check_places, events_with, table_of};
+use perf_sections::error::OpenError;
+use perf_sections::events::Event;
+use perf_sections::features::find_descriptions;
+use perf_sections::head::{Head, check_features, check_parts, head_of};
+use perf_sections::id_sections::{check_apart, id_sections_of, sections_of};
+use perf_sections::ids::{IdOfEvent, least_shared};
+use perf_sections::reading::{check_places, events_with, table_of};
 use std::alloc::Global;
 
 /// The head, if it is good.

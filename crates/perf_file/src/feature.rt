@@ -51,7 +51,7 @@ impl Feature {
 
     /// The descriptions of events. [`Event::name`] reads it.
     ///
-    /// [`Event::name`]: crate::Event::name
+    /// [`Event::name`]: perf_sections::Event::name
     pub const EVENT_DESC: Feature = Feature(12);
 
     /// Which processors are on one core or die.

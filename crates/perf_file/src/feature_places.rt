@@ -7,7 +7,7 @@ ghost use Rattle.perf_file.specs.Forms.{feature_of, notes_of};
 ghost use Rattle.perf_file.specs.NotePlaces.{IsPlaced, bytes_of};
 ghost use Rattle.perf_file.specs.NoteViews.{note_of};
 ghost use Rattle.perf_file.specs.Pipes as pipes;
-ghost use Rattle.perf_file.specs.Sections.{IsInside};
+ghost use Rattle.perf_sections.specs.Sections.{IsInside};
 
 use crate::event_list::checked_head;
 use crate::feature::BadFeature;
@@ -16,8 +16,8 @@ use crate::note_frames::Note;
 use crate::noting::has_number;
 use crate::pipe_outline::frames_of;
 use crate::piped::pipe_order;
-use crate::section::Section;
 use perf_base::endian::Dynamic;
+use perf_sections::section::Section;
 
 // Where a feature of a file is that is no pipe.
 #[tactic(auto, unfolding(crate::specs::FeatureTable::file_feature_of))]

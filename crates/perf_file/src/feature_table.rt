@@ -3,15 +3,15 @@
 ghost use Rattle.std.specs.Prelude.{◌≡◌, ◌+◌, ◌*◌, ◌≤◌, length, IfOk, IfSome};
 ghost use Rattle.perf_base.specs.Dynamic.{order_of};
 ghost use Rattle.perf_file.specs.FeatureTable as table;
-ghost use Rattle.perf_file.specs.Heads.{IsGoodHead};
-ghost use Rattle.perf_file.specs.Sections.{IsInside};
+ghost use Rattle.perf_sections.specs.Heads.{IsGoodHead};
+ghost use Rattle.perf_sections.specs.Sections.{IsInside};
 
 use crate::event_list::checked_head;
 use crate::feature::BadFeature;
-use crate::head::Head;
-use crate::number::{bytes_at, number_at};
-use crate::section::{Section, is_inside, section_at};
 use perf_base::endian::Dynamic;
+use perf_sections::head::Head;
+use perf_sections::number::{bytes_at, number_at};
+use perf_sections::section::{Section, is_inside, section_at};
 
 // Whether the head has the bit of a feature.
 fn has_feature(order: Dynamic, bytes: &[u8], feature: u8) -> bool

@@ -5,14 +5,12 @@ ghost use Rattle.std.specs.List.Sorted.{IsNonDecreasingBy};
 ghost use Rattle.perf_base.specs.Dynamic.{order_of};
 ghost use Rattle.perf_records.specs.Sights.{sight_of, sight_in};
 ghost use Rattle.perf_file.specs.Finders.{Finds};
-ghost use Rattle.perf_file.specs.IdTables as tables;
-ghost use Rattle.perf_file.specs.Opened.{File, table_of};
+ghost use Rattle.perf_sections.specs.IdTables as tables;
+ghost use Rattle.perf_sections.specs.Opened.{File, table_of};
 ghost use Rattle.perf_file.specs.Owners as owners;
 ghost use Rattle.perf_file.specs.Pieces as pieces;
-ghost use Rattle.perf_file.specs.declared.ids.IdOfEvent.{IdOfEvent};
+ghost use Rattle.perf_sections.specs.declared.ids.IdOfEvent.{IdOfEvent};
 
-use crate::id_place::{IdPlace, id_at};
-use crate::ids::{IdOfEvent, event_of};
 use crate::listing::{header_of, payload_length, size_of, split_most};
 use crate::owning::Owner;
 use perf_base::endian::Dynamic;
@@ -20,6 +18,8 @@ use perf_base::sys::PERF_RECORD_SAMPLE;
 use perf_records::frame::Frame;
 use perf_records::frame_handler::BadFrame;
 use perf_records::frame_list::frames;
+use perf_sections::id_place::{IdPlace, id_at};
+use perf_sections::ids::{IdOfEvent, event_of};
 
 /// What the event of a frame depends on.
 #[derive(Copy, Clone, Debug)]

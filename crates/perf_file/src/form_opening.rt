@@ -1,29 +1,29 @@
 //! A file is opened in one of its two forms.
 
 ghost use Rattle.std.specs.Prelude.{◌≡◌, ◌<◌, ◌≤◌, ℕ, List, Some, None, IfOk, All, length, map, slice_index_or};
-ghost use Rattle.perf_file.specs.Features.{file_descriptions};
+ghost use Rattle.perf_sections.specs.Features.{file_descriptions};
 ghost use Rattle.perf_file.specs.Forms as forms;
-ghost use Rattle.perf_file.specs.Names as names;
-ghost use Rattle.perf_file.specs.Opened as opens;
-ghost use Rattle.perf_file.specs.Opens.{Gives};
+ghost use Rattle.perf_sections.specs.Names as names;
+ghost use Rattle.perf_sections.specs.Opened as opens;
+ghost use Rattle.perf_sections.specs.Opens.{Gives};
 ghost use Rattle.perf_file.specs.Pipes as pipes;
 ghost use Rattle.perf_file.specs.Views.{view};
-ghost use Rattle.perf_file.specs.declared.events.Event.{Event};
-ghost use Rattle.perf_file.specs.declared.head.Head.{Head};
-ghost use Rattle.perf_file.specs.declared.section.Section.{Section};
+ghost use Rattle.perf_sections.specs.declared.events.Event.{Event};
+ghost use Rattle.perf_sections.specs.declared.head.Head.{Head};
+ghost use Rattle.perf_sections.specs.declared.section.Section.{Section};
 
-use crate::error::OpenError;
 use crate::event_list::{checked_head, events_in, found_events};
 use crate::noting::notes_in;
-use crate::number::bytes_at;
 use crate::opening::Recording;
 use crate::piped::found_pipe_events;
-use crate::reading::first_place;
 use perf_base::endian::Dynamic;
+use perf_sections::error::OpenError;
+use perf_sections::number::bytes_at;
+use perf_sections::reading::first_place;
 use std::alloc::Global;
 
 /// Opens a file that is no pipe.
-#[tactic(auto, unfolding(crate::specs::Forms::notes_of, crate::specs::Opened::opened_file))]
+#[tactic(auto, unfolding(crate::specs::Forms::notes_of, perf_sections::specs::Opened::opened_file))]
 pub(crate) fn open_file<'p>(alloc: Global, bytes: &'p [u8]) -> Result<Recording<'p>, OpenError>
     requires { pipes.pipe_order bytes.now ≡ None }
     ensures exact { Gives view result (opens.opened_file bytes.now) }

@@ -7,9 +7,9 @@ ghost use Rattle.perf_file.specs.FeatureTexts as texts;
 
 use crate::command_line::{CommandLine, checked_text, checked_words};
 use crate::feature::{BadFeature, Feature};
-use crate::number::number_at;
 use crate::opening::Recording;
 use perf_base::endian::Dynamic;
+use perf_sections::number::number_at;
 
 /// The times of the first and of the last sample, in nanoseconds of the clock of the recording. perf
 /// writes zeros if it did not look at the samples.

@@ -3,16 +3,16 @@
 ghost use Rattle.std.specs.Prelude.{◌≡◌, ◌+◌, ◌++◌, ◌≤◌, ◌/◌, ℕ, All, OnOk, length, take};
 ghost use Rattle.std.specs.List.Sorted.{IsPermutation, IsNonDecreasingBy};
 ghost use Rattle.perf_base.specs.Dynamic.{order_of};
-ghost use Rattle.perf_file.specs.IdTables as tables;
+ghost use Rattle.perf_sections.specs.IdTables as tables;
 ghost use Rattle.perf_file.specs.Outlines as outlines;
-ghost use Rattle.perf_file.specs.Sections.{IsInside};
-ghost use Rattle.perf_file.specs.declared.ids.IdOfEvent.{IdOfEvent};
+ghost use Rattle.perf_sections.specs.Sections.{IsInside};
+ghost use Rattle.perf_sections.specs.declared.ids.IdOfEvent.{IdOfEvent};
 
-use crate::error::OpenError;
-use crate::ids::{IdOfEvent, least_shared};
-use crate::number::number_at;
-use crate::section::Section;
 use perf_base::endian::Dynamic;
+use perf_sections::error::OpenError;
+use perf_sections::ids::{IdOfEvent, least_shared};
+use perf_sections::number::number_at;
+use perf_sections::section::Section;
 
 // Writes the ids of an event, which are in a section, from an index of the list on.
 fn put_ids(

@@ -3,18 +3,18 @@
 ghost use Rattle.std.specs.Prelude.{◌≡◌, ◌<◌, ℕ, List, Some, None, MatchOption, length};
 ghost use Rattle.std.specs.List.Sorted.{IsNonDecreasingBy};
 ghost use Rattle.perf_base.specs.Dynamic.{order_of};
-ghost use Rattle.perf_file.specs.NamePlaces.{name_at};
+ghost use Rattle.perf_sections.specs.NamePlaces.{name_at};
 ghost use Rattle.perf_file.specs.NotePlaces.{IsPlaced};
 ghost use Rattle.perf_file.specs.NoteViews.{note_of};
 ghost use Rattle.perf_file.specs.Pipes as pipes;
-ghost use Rattle.perf_file.specs.declared.ids.IdOfEvent.{IdOfEvent};
+ghost use Rattle.perf_sections.specs.declared.ids.IdOfEvent.{IdOfEvent};
 
-use crate::ids::{IdOfEvent, event_of};
 use crate::note_frames::Note;
-use crate::number::number_at;
 use crate::piped::name_in;
-use crate::section::Section;
 use perf_base::endian::Dynamic;
+use perf_sections::ids::{IdOfEvent, event_of};
+use perf_sections::number::number_at;
+use perf_sections::section::Section;
 
 /// The event that a note names, by ids that rise, and where in the file that name is.
 pub fn new_name_in(order: Dynamic, table: &[IdOfEvent], note: &Note<'_>) -> Option<(usize, Section)>

@@ -5,19 +5,19 @@ ghost use Rattle.std.specs.Prelude.{◌≡◌, ◌+◌, ◌≤◌, ◌<◌, ◌^
 ghost use Rattle.std.specs.List.{filter};
 ghost use Rattle.perf_base.specs.Dynamic.{order_of};
 ghost use Rattle.perf_file.specs.NoteViews as views;
-ghost use Rattle.perf_file.specs.Opens.{Gives};
+ghost use Rattle.perf_sections.specs.Opens.{Gives};
 ghost use Rattle.perf_file.specs.Pieces as pieces;
 ghost use Rattle.perf_file.specs.Pipes as pipes;
 ghost use Rattle.perf_records.specs.Sights.{sight_of, sight_in};
 
-use crate::error::OpenError;
 use crate::finding::first_in;
 use crate::listing::header_of;
 use crate::note_frames::{Note, NoteFrames};
-use crate::number::{bytes_at, number_at};
 use perf_base::endian::Dynamic;
 use perf_records::frame::Frame;
 use perf_records::frame_handler::BadFrame;
+use perf_sections::error::OpenError;
+use perf_sections::number::{bytes_at, number_at};
 use std::alloc::{AllocError, Global};
 
 /// The types of notes: an attribute, a build id, what is new of an event, and a feature.

@@ -4,21 +4,21 @@ ghost use Rattle.std.specs.Prelude.{◌≡◌, ◌+◌, ◌<◌, ◌^◌, ℕ, L
 ghost use Rattle.std.specs.List.Sorted.{IsNonDecreasingBy};
 ghost use Rattle.perf_base.specs.Configured.{endian_of};
 ghost use Rattle.perf_file.specs.Forms as forms;
-ghost use Rattle.perf_file.specs.IdPlaces as places;
-ghost use Rattle.perf_file.specs.IdTables as tables;
+ghost use Rattle.perf_sections.specs.IdPlaces as places;
+ghost use Rattle.perf_sections.specs.IdTables as tables;
 ghost use Rattle.perf_file.specs.NoteViews.{note_of};
-ghost use Rattle.perf_file.specs.Opened as opens;
-ghost use Rattle.perf_file.specs.declared.events.Event.{Event};
-ghost use Rattle.perf_file.specs.declared.ids.IdOfEvent.{IdOfEvent};
+ghost use Rattle.perf_sections.specs.Opened as opens;
+ghost use Rattle.perf_sections.specs.declared.events.Event.{Event};
+ghost use Rattle.perf_sections.specs.declared.ids.IdOfEvent.{IdOfEvent};
 
-use crate::error::OpenError;
-use crate::events::Event;
 use crate::form_opening::{open_file, open_pipe};
-use crate::id_place::IdPlace;
-use crate::ids::IdOfEvent;
 use crate::note_frames::Note;
 use crate::piped::pipe_order;
 use perf_base::endian::Dynamic;
+use perf_sections::error::OpenError;
+use perf_sections::events::Event;
+use perf_sections::id_place::IdPlace;
+use perf_sections::ids::IdOfEvent;
 use std::alloc::Global;
 
 /// A `perf.data` file that was opened. Its bytes stay borrowed.
@@ -44,12 +44,12 @@ pub struct Recording<'p> {
 }
 
 impl<'p> Recording<'p> {
-    ghost use Rattle.perf_file.specs.Names as names;
-    ghost use Rattle.perf_file.specs.Opens.{Gives};
+    ghost use Rattle.perf_sections.specs.Names as names;
+    ghost use Rattle.perf_sections.specs.Opens.{Gives};
     ghost use Rattle.perf_file.specs.Pipes.{pipe_order};
     ghost use Rattle.perf_file.specs.Views.{view};
-    ghost use Rattle.perf_file.specs.declared.head.Head.{Head};
-    ghost use Rattle.perf_file.specs.declared.section.Section.{Section};
+    ghost use Rattle.perf_sections.specs.declared.head.Head.{Head};
+    ghost use Rattle.perf_sections.specs.declared.section.Section.{Section};
 
     /// Opens a file that is all in memory, as `perf record` writes it into a file or to a pipe.
     ///

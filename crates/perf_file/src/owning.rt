@@ -1,12 +1,12 @@
 //! Which event a frame belongs to.
 
 ghost use Rattle.std.specs.Prelude.{◌≡◌, map};
-ghost use Rattle.perf_file.specs.Opened.{attributes_of, event_view};
+ghost use Rattle.perf_sections.specs.Opened.{attributes_of, event_view};
 ghost use Rattle.perf_file.specs.Owners as owners;
 
-use crate::events::Event;
 use crate::finding::Finder;
 use crate::opening::Recording;
+use perf_sections::events::Event;
 
 /// Which event a frame belongs to.
 #[derive(Copy, Clone, Debug, PartialEq, Eq)]

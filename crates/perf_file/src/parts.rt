@@ -4,16 +4,16 @@ ghost use Rattle.std.specs.Prelude.{◌≡◌, ◌+◌, ◌≤◌, All, OnOk, le
 ghost use Rattle.std.specs.Bool.{OnTrue};
 ghost use Rattle.std.specs.List.Sorted.{IsPermutation, IsNonDecreasingBy};
 ghost use Rattle.perf_file.specs.Filled.{Fills};
-ghost use Rattle.perf_file.specs.Heads.{IsGoodHead};
-ghost use Rattle.perf_file.specs.IdSections.{entry_count};
+ghost use Rattle.perf_sections.specs.Heads.{IsGoodHead};
+ghost use Rattle.perf_sections.specs.IdSections.{entry_count};
 ghost use Rattle.perf_file.specs.Outlines as outlines;
-ghost use Rattle.perf_file.specs.Sections.{are_apart, ShareNothing, IsInside, IsSmall};
+ghost use Rattle.perf_sections.specs.Sections.{are_apart, ShareNothing, IsInside, IsSmall};
 
-use crate::apart::sorted_are_apart;
-use crate::error::OpenError;
-use crate::head::{HEAD_SIZE, Head};
-use crate::id_sections::id_section_at;
-use crate::section::Section;
+use perf_sections::apart::sorted_are_apart;
+use perf_sections::error::OpenError;
+use perf_sections::head::{HEAD_SIZE, Head};
+use perf_sections::id_sections::id_section_at;
+use perf_sections::section::Section;
 
 // Writes all parts of a file: the head, the attributes, the frames, and the ids of each event.
 /// Refuses the first event whose ids are not whole, or end beyond the file.

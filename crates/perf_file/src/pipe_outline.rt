@@ -9,16 +9,16 @@ ghost use Rattle.perf_file.specs.Outlines.{id_count};
 ghost use Rattle.perf_file.specs.PipeOutlines as outlines;
 ghost use Rattle.perf_file.specs.Pipes as pipes;
 ghost use Rattle.perf_file.specs.Pipes.{FrameNote};
-ghost use Rattle.perf_file.specs.Sections.{IsInside};
+ghost use Rattle.perf_sections.specs.Sections.{IsInside};
 
-use crate::error::OpenError;
-use crate::head::Head;
 use crate::note_frames::{Note, NoteFrames};
 use crate::noting::{HEADER_ATTR, is_compressed};
 use crate::piped::{noted_attribute, noted_ids, pipe_order};
-use crate::section::Section;
 use crate::summary::{Outline, outline_of};
 use perf_base::endian::Dynamic;
+use perf_sections::error::OpenError;
+use perf_sections::head::Head;
+use perf_sections::section::Section;
 use std::alloc::Global;
 
 /// The frames of a pipe in that order, each once.

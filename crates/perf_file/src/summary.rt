@@ -1,16 +1,16 @@
 //! What is known of a file before its events are read into memory.
 
 ghost use Rattle.std.specs.Prelude.{◌≡◌, ◌≤◌, Ok, IfOk, OnOk, length};
-ghost use Rattle.perf_file.specs.Heads.{IsGoodHead};
-ghost use Rattle.perf_file.specs.IdSections.{entry_count};
-ghost use Rattle.perf_file.specs.Opened as opens;
+ghost use Rattle.perf_sections.specs.Heads.{IsGoodHead};
+ghost use Rattle.perf_sections.specs.IdSections.{entry_count};
+ghost use Rattle.perf_sections.specs.Opened as opens;
 ghost use Rattle.perf_file.specs.Outlines as outlines;
 
 use crate::attributes::attribute_at;
-use crate::error::OpenError;
 use crate::event_list::checked_head;
-use crate::head::Head;
-use crate::id_sections::id_section_at;
+use perf_sections::error::OpenError;
+use perf_sections::head::Head;
+use perf_sections::id_sections::id_section_at;
 use std::alloc::Global;
 
 /// What is known of a file before its events are read into memory.

@@ -28,26 +28,50 @@ fn main(rt: HostRuntime) -> Result<()> {
         bail!("{USAGE}");
     };
     let bytes = fs::read(&rt, path.as_str())?;
-    let recording = match Recording::open(rt.alloc(), &bytes) {
+    open_and_print(&rt, way.as_str(), &bytes)
+}
+
+// Opens a file, and prints what a way of reading finds.
+fn open_and_print(rt: &HostRuntime, way: &str, bytes: &[u8]) -> Result<()> {
+    let recording = match Recording::open(rt.alloc(), bytes) {
         Ok(recording) => recording,
         Err(error) => bail!("{error}"),
     };
+    let printed = print_way(rt, way, bytes, &recording);
+    drop(recording);
+    printed
+}
+
+// Prints what a way of reading finds.
+fn print_way(rt: &HostRuntime, way: &str, bytes: &[u8], recording: &Recording<'_>) -> Result<()> {
     let entries = recording.in_order(rt.alloc())?;
-    match way.as_str() {
-        "order" => {
-            let (frames, len) = go_over(&recording, &entries);
-            println!(rt; "{frames} frames of {len} bytes")?;
-        }
-        "flat" => {
-            let counts = count_frames(rt.alloc(), &bytes, &recording, &entries)?;
-            for Count { samples, period } in &counts.events {
-                println!(rt; "{samples} samples of {period}")?;
-            }
-            let refused = counts.refused;
-            println!(rt; "{refused} refused")?;
-        }
+    match way {
+        "order" => print_order(rt, recording, &entries),
+        "flat" => print_counts(rt, bytes, recording, &entries),
         _ => bail!("{USAGE}"),
     }
+}
+
+// Prints how many frames there are, and how many bytes they have.
+fn print_order(rt: &HostRuntime, recording: &Recording<'_>, entries: &[Entry]) -> Result<()> {
+    let (frames, len) = go_over(recording, entries);
+    println!(rt; "{frames} frames of {len} bytes")?;
+    Ok(())
+}
+
+// Prints what is counted of each event, and how many frames were refused.
+fn print_counts(
+    rt: &HostRuntime,
+    bytes: &[u8],
+    recording: &Recording<'_>,
+    entries: &[Entry],
+) -> Result<()> {
+    let counts = count_frames(rt.alloc(), bytes, recording, entries)?;
+    for Count { samples, period } in &counts.events {
+        println!(rt; "{samples} samples of {period}")?;
+    }
+    let refused = counts.refused;
+    println!(rt; "{refused} refused")?;
     Ok(())
 }
 
@@ -115,25 +139,35 @@ fn count_frames(
     let mut counts = Counts::new(alloc, recording.events().len())?;
     let mut place = None;
     for entry in entries {
-        let (Owner::Event(number), Some(config)) = (entry.owner, recording.config(entry.owner))
-        else {
+        let Owner::Event(number) = entry.owner else {
             continue;
         };
-        let Some(front) = bytes.get(entry.at..) else {
-            continue;
-        };
-        match &mut place {
-            Some(frame) => {
-                read_into(config, front, frame);
-                counts.add(number, frame);
-            }
-            None => {
-                place = read(alloc, config, front);
-                if let Some(frame) = &place {
-                    counts.add(number, frame);
-                }
-            }
+        if read_entry(alloc, bytes, recording, entry, &mut place)
+            && let Some(frame) = &place
+        {
+            counts.add(number, frame);
         }
     }
     Ok(counts)
+}
+
+// Reads the frame of an entry to the place of the one before it, if there was one, and returns whether
+// the entry has a frame.
+fn read_entry(
+    alloc: Global,
+    bytes: &[u8],
+    recording: &Recording<'_>,
+    entry: &Entry,
+    place: &mut Option<FlatFrame>,
+) -> bool {
+    let (Some(config), Some(front)) = (recording.config(entry.owner), bytes.get(entry.at..)) else {
+        return false;
+    };
+    match place {
+        Some(frame) => {
+            read_into(config, front, frame);
+        }
+        None => *place = read(alloc, config, front),
+    }
+    true
 }

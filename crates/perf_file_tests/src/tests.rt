@@ -1,6 +1,7 @@
 //! The tests.
 
 mod changed;
+mod checks;
 mod features;
 mod files;
 mod many;

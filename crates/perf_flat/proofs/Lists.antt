@@ -15,10 +15,10 @@ use Rattle.perf_base.specs.declared.refusal.Refusal.TheVariants.{Kept}
 use Rattle.perf_words.specs.Bits.{has_bit}
 use Rattle.perf_words.specs.Sets.{element_len}
 use Rattle.perf_words.proofs.Contained.{contains_bit}
-use Rattle.perf_types.specs.GroupEntry.{block_len, blocks, entry_of}
-use Rattle.perf_types.specs.ReadFormat.{has_time_enabled, has_time_running, has_counter_id, has_lost, has_group, has_known_bits}
-use Rattle.perf_types.specs.ReadGroup.{GroupRead, read_group, group_of, all_entries, only_entry}
-use Rattle.perf_types.specs.ReadValue.{SingleRead, read_value}
+use Rattle.perf_counters.specs.GroupEntry.{block_len, blocks, entry_of}
+use Rattle.perf_counters.specs.ReadFormat.{has_time_enabled, has_time_running, has_counter_id, has_lost, has_group, has_known_bits}
+use Rattle.perf_counters.specs.ReadGroup.{GroupRead, read_group, group_of, all_entries, only_entry}
+use Rattle.perf_counters.specs.ReadValue.{SingleRead, read_value}
 use Rattle.perf_sample_types.specs.Branches.{branches_of}
 use Rattle.perf_sample_types.specs.Registers.{register_count}
 use Rattle.perf_sample_types.specs.Sample.{FieldValue, group_is, branches_are, registers_are, values, branch_stack, registers}

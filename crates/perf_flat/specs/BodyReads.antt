@@ -1,7 +1,7 @@
 -- The parts of a body that depend on the configuration or on the header's misc, as they are read in place.
 use Rattle.std.specs.Prelude.{ℕ, ◌≡◌, List}
 use Rattle.perf_types.specs.MmapDetail.{DetailValue, maj_of, min_of, ino_of, ino_generation_of, build_id_of}
-use Rattle.perf_types.specs.ReadValue.{SingleRead}
+use Rattle.perf_counters.specs.ReadValue.{SingleRead}
 use Rattle.perf_base.specs.Attribute.{or_zero}
 use Rattle.perf_flat.specs.SampleReads.{InFrames}
 use Rattle.perf_flat.specs.Samples.{HasString}

@@ -3,10 +3,10 @@
 use Rattle.std.specs.Prelude.{ℕ, ◌+◌, ◌*◌, ◌%◌, ◌^◌, ◌≡◌, ◌&&◌, Bool, true, false, List, [], ◌∷◌, length, Option, Some, None, if◌then◌else◌}
 use Rattle.perf_base.specs.Configuration.{Configuration}
 use Rattle.perf_base.specs.Order.{Order}
-use Rattle.perf_types.specs.GroupEntry.{block_len}
-use Rattle.perf_types.specs.ReadFormat.{has_group}
-use Rattle.perf_types.specs.ReadGroup.{GroupRead, all_entries, only_entry}
-use Rattle.perf_types.specs.declared.group_entry.GroupEntry.{GroupEntry}
+use Rattle.perf_counters.specs.GroupEntry.{block_len}
+use Rattle.perf_counters.specs.ReadFormat.{has_group}
+use Rattle.perf_counters.specs.ReadGroup.{GroupRead, all_entries, only_entry}
+use Rattle.perf_counters.specs.declared.group_entry.GroupEntry.{GroupEntry}
 use Rattle.perf_sample_types.specs.Branches.{branches_of}
 use Rattle.perf_sample_types.specs.Registers.{RegistersValue}
 use Rattle.perf_sample_types.specs.Sample.{SampleValue}

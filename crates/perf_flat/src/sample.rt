@@ -17,9 +17,9 @@ ghost use Rattle.perf_records.specs.Prelude.{configuration_of};
 ghost use Rattle.perf_records.specs.Records.{sample_is};
 ghost use Rattle.perf_sample_types.specs.Sample as sample;
 ghost use Rattle.perf_sample_types.specs.SampleGetters as getters;
-ghost use Rattle.perf_types.specs.ReadFormat.{has_group};
-ghost use Rattle.perf_types.specs.ReadGroup.{read_group};
-ghost use Rattle.perf_types.specs.ReadValue.{read_value};
+ghost use Rattle.perf_counters.specs.ReadFormat.{has_group};
+ghost use Rattle.perf_counters.specs.ReadGroup.{read_group};
+ghost use Rattle.perf_counters.specs.ReadValue.{read_value};
 ghost use Rattle.perf_words.specs.SetBits.{sample_flags_bits, read_format_bits};
 
 use crate::cursor::BodyCursor;

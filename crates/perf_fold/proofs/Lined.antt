@@ -6,10 +6,10 @@ use Rattle.perf_folded.specs.declared.error.TextError.{TextError}
 use Rattle.perf_folded.specs.declared.error.TextError.TheVariants as texts
 use Rattle.perf_folded.specs.declared.form.Form.{Form}
 use Rattle.perf_file.specs.Forms.{opened, event_name}
-use Rattle.perf_file.specs.Names.{name_view}
-use Rattle.perf_file.specs.Opened.{event_view}
+use Rattle.perf_sections.specs.Names.{name_view}
+use Rattle.perf_sections.specs.Opened.{event_view}
 use Rattle.perf_file.specs.Views.{view}
-use Rattle.perf_file.specs.declared.events.Event.{Event}
+use Rattle.perf_sections.specs.declared.events.Event.{Event}
 use Rattle.perf_file.specs.declared.opening.Recording.{Recording}
 use Rattle.perf_flame.specs.Lines.{Line}
 use Rattle.perf_fold.specs.EventLabels.{EventLabel, any_counts, own_labels}

@@ -1,9 +1,9 @@
 -- The events of an open file, as their samples need them.
 use Rattle.std.specs.Prelude.{ℕ, Bool, true, List, [], get_or, map, string_bytes}
 use Rattle.std.specs.List.{enumerate_from, list_any}
-use Rattle.perf_file.specs.Names.{Name, name_view, name_text}
-use Rattle.perf_file.specs.Opened.{FileEvent, event_view}
-use Rattle.perf_file.specs.declared.events.Event.{Event}
+use Rattle.perf_sections.specs.Names.{Name, name_view, name_text}
+use Rattle.perf_sections.specs.Opened.{FileEvent, event_view}
+use Rattle.perf_sections.specs.declared.events.Event.{Event}
 use Rattle.perf_walk.specs.Filters.{takes_event}
 use Rattle.perf_walk.specs.declared.filtering.Filter.{Filter}
 use Rattle.perf_fold.specs.declared.labels.Label.{Label}

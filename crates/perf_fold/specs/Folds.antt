@@ -5,7 +5,7 @@ use Rattle.perf_base.specs.Dynamic.{order_of}
 use Rattle.perf_base.specs.Header.{header_of}
 use Rattle.perf_base.specs.Order.{Order}
 use Rattle.perf_file.specs.Entries.{IsInOrder, entries_of}
-use Rattle.perf_file.specs.Opened.{File}
+use Rattle.perf_sections.specs.Opened.{File}
 use Rattle.perf_file.specs.declared.entries.Entry.{Entry}
 use Rattle.perf_flame.specs.Lines.{Line, add_count}
 use Rattle.perf_flat.specs.Samples.{sample_present}

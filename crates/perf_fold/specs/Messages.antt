@@ -1,6 +1,6 @@
 -- What a refusal says.
 use Rattle.std.specs.Prelude.{ℕ, List, codes}
-use Rattle.perf_file.specs.Messages as files
+use Rattle.perf_sections.specs.Messages as files
 use Rattle.perf_folded.specs.Messages as texts
 use Rattle.perf_fold.specs.declared.error.FoldError.{FoldError}
 use Rattle.perf_fold.specs.declared.error.FoldError.TheVariants as errors

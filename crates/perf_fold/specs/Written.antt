@@ -4,9 +4,9 @@ use Rattle.perf_flame.specs.Lines.{Line}
 use Rattle.perf_lines.specs.Outcomes.{status_of}
 use Rattle.perf_lines.specs.declared.outcome.Outcome.{Outcome}
 use Rattle.perf_file.specs.Forms.{opened, event_name}
-use Rattle.perf_file.specs.Opened.{File}
-use Rattle.perf_file.specs.Opens.{Fails}
-use Rattle.perf_file.specs.declared.error.OpenError.TheVariants as opens
+use Rattle.perf_sections.specs.Opened.{File}
+use Rattle.perf_sections.specs.Opens.{Fails}
+use Rattle.perf_sections.specs.declared.error.OpenError.TheVariants as opens
 use Rattle.perf_folded.specs.Written.{WritesForm}
 use Rattle.perf_folded.specs.declared.error.TextError.TheVariants as texts
 use Rattle.perf_folded.specs.declared.form.Form.{Form}

@@ -2,7 +2,7 @@
 
 ghost use Rattle.std.specs.Prelude.{◌≡◌, IfOk, string_bytes};
 ghost use Rattle.std.specs.List.{list_any};
-ghost use Rattle.perf_file.specs.Names.{name_view, name_text};
+ghost use Rattle.perf_sections.specs.Names.{name_view, name_text};
 ghost use Rattle.perf_fold.specs.EventLabels as labels;
 
 use perf_file::{Event, Recording};

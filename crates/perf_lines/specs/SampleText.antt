@@ -2,8 +2,8 @@
 use Rattle.std.specs.Prelude.{ℕ, Bool, true, false, List, [], ◌∷◌, ◌++◌, codes, decimal}
 use Rattle.std.specs.Prelude.{Option, Some, None}
 use Rattle.std.specs.List.{flat_map}
-use Rattle.perf_types.specs.declared.group_entry.GroupEntry.{GroupEntry}
-use Rattle.perf_types.specs.ReadGroup.{GroupRead}
+use Rattle.perf_counters.specs.declared.group_entry.GroupEntry.{GroupEntry}
+use Rattle.perf_counters.specs.ReadGroup.{GroupRead}
 use Rattle.perf_sample_types.specs.Registers.{RegistersValue}
 use Rattle.perf_sample_types.specs.SampleGetters.{Getters}
 use Rattle.perf_words.specs.Branch.{Branch, mispred_of, predicted_of, in_tx_of, abort_of}

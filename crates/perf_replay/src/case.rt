@@ -1,13 +1,14 @@
 //! A case of the list.
 
+use crate::asks::{text_after_attribute, text_of_calls};
+use crate::lines::Perfrec;
 use crate::perfrec;
 use anyhow::{Context, Result, bail};
 use perf_event_data::endian::Dynamic;
 use perf_event_data::sys::perf_event_attr;
-use perf_test_helpers::asks::text_of_calls;
 use perf_test_helpers::everywhere::add_other;
 use perf_test_helpers::reasons::reasons;
-use perf_test_helpers::runs::{runs_everywhere, text_after_attribute, text_of_records};
+use perf_test_helpers::runs::{runs_everywhere, text_of_records};
 use perf_test_helpers::sample_bytes::{Part, frames, put_parts};
 use std::alloc::{AllocError, Global};
 
@@ -49,7 +50,15 @@ impl<'a> Case<'a> {
 
     /// Begins another case, in which nothing is set yet.
     pub fn begin(&mut self, name: &'a str) {
-        *self = Case::new(self.alloc, name);
+        self.name = name;
+        self.attr = perf_event_attr::default();
+        self.little.clear();
+        self.big.clear();
+        self.is_complete = false;
+        self.order = Dynamic::Little;
+        self.how = "";
+        self.request = "";
+        self.lines.clear();
     }
 
     pub fn name(&self) -> &'a str {
@@ -59,7 +68,7 @@ impl<'a> Case<'a> {
     /// Sets what a line specifies.
     pub fn set(&mut self, word: &'a str, rest: &'a str) -> Result<()> {
         match word {
-            "under" => self.attr = attribute(rest)?,
+            "under" => set_attribute(&mut self.attr, rest)?,
             "big" => self.order = Dynamic::Big,
             "little" => self.order = Dynamic::Little,
             "run" | "after" | "ask" | "shown" | "sample" | "perfrec" | "refused" => {
@@ -86,11 +95,20 @@ impl<'a> Case<'a> {
             self.is_complete = false;
         }
         for item in rest.split(' ') {
-            match word {
-                "bytes" => self.append_digits(item)?,
-                "zeros" => self.append_zeros(number(item)?)?,
-                _ => self.append_part(part(word, number(item)?)?)?,
-            }
+            self.append_item(word, item)?;
+        }
+        Ok(())
+    }
+
+    fn append_item(&mut self, word: &str, item: &str) -> Result<()> {
+        if word == "bytes" {
+            return self.append_digits(item);
+        }
+        let number = number(item)?;
+        if word == "zeros" {
+            self.append_zeros(number)?;
+        } else {
+            self.append_part(part(word, number)?)?;
         }
         Ok(())
     }
@@ -98,7 +116,7 @@ impl<'a> Case<'a> {
     // Appends bytes that are written as pairs of digits.
     fn append_digits(&mut self, digits: &str) -> Result<()> {
         for pair in digits.as_bytes().chunks(2) {
-            let byte = u8::from_str_radix(str::from_utf8(pair)?, 16)?;
+            let byte = byte_of(pair)?;
             self.append_part(Part::Bytes(&[byte]))?;
         }
         Ok(())
@@ -122,7 +140,7 @@ impl<'a> Case<'a> {
         match self.how {
             "ask" => self.text_of_requests(),
             "run" => self.text_of_runs(),
-            "after" => Ok(text_after_attribute(self.alloc, &self.little, &self.limits()?)?),
+            "after" => self.text_after_attribute(),
             "shown" => Ok(text_of_records(self.alloc, &self.little)?),
             "sample" => self.text_of_sample(),
             "perfrec" => perfrec::text_of(self.alloc, self.request, &self.little),
@@ -134,6 +152,11 @@ impl<'a> Case<'a> {
     fn text_of_requests(&self) -> Result<String> {
         let bytes = self.bytes(self.order);
         Ok(text_of_calls(self.alloc, bytes, self.order, &self.attr, self.request)?)
+    }
+
+    fn text_after_attribute(&self) -> Result<String> {
+        let limits = self.limits()?;
+        Ok(text_after_attribute(self.alloc, &self.little, &limits)?)
     }
 
     fn text_of_reasons(&self) -> Result<String> {
@@ -149,12 +172,14 @@ impl<'a> Case<'a> {
     }
 
     fn text_of_runs(&self) -> Result<String> {
+        let limits = self.limits()?;
         Ok(runs_everywhere(
             self.alloc,
+            &Perfrec,
             &self.little,
             Dynamic::Little,
             &self.attr,
-            &self.limits()?,
+            &limits,
         )?)
     }
 
@@ -215,7 +240,7 @@ impl<'a> Case<'a> {
         let want = format!(in self.alloc;
             "0 9 2 {size} {sample}; 1 13 0 16 LostSamples lost=5; done"
         )?;
-        let actual = runs_everywhere(self.alloc, frame, order, &self.attr, &[10])?;
+        let actual = runs_everywhere(self.alloc, &Perfrec, frame, order, &self.attr, &[10])?;
         add_other(text, actual.as_str(), want.as_str())
     }
 }
@@ -229,6 +254,11 @@ fn part(word: &str, number: u64) -> Result<Part<'static>> {
     }
 }
 
+// A byte, in two hexadecimal digits.
+fn byte_of(digits: &[u8]) -> Result<u8> {
+    Ok(u8::from_str_radix(str::from_utf8(digits)?, 16)?)
+}
+
 // A number, in hexadecimal digits after 0x.
 fn number(word: &str) -> Result<u64> {
     match word.strip_prefix("0x") {
@@ -237,13 +267,14 @@ fn number(word: &str) -> Result<u64> {
     }
 }
 
-fn attribute(fields: &str) -> Result<perf_event_attr> {
-    let mut attr = perf_event_attr::default();
+// Sets an attribute to the one with these fields.
+fn set_attribute(attr: &mut perf_event_attr, fields: &str) -> Result<()> {
+    *attr = perf_event_attr::default();
     for field in fields.split(' ') {
         let (name, value) = field.split_once('=').context("a field without a value")?;
-        set_field(&mut attr, name, number(value)?)?;
+        set_field(attr, name, number(value)?)?;
     }
-    Ok(attr)
+    Ok(())
 }
 
 fn set_field(attr: &mut perf_event_attr, name: &str, value: u64) -> Result<()> {

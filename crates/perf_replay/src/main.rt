@@ -10,7 +10,7 @@
 //!   `branch_sample_type`, `sample_regs_user` and `sample_regs_intr`, 0 if they are not named.
 //! - `bytes DIGITS ..`, `zeros COUNT`, and `u16`, `u32` and `u64 NUMBER ..` are the bytes, one
 //!   after another. The first such line after an answer replaces the bytes before.
-//! - `ask WORD ..` asks a parser ([`perf_test_helpers::asks`]); after the line `big` in big endian, and
+//! - `ask WORD ..` asks a parser ([`asks`]); after the line `big` in big endian, and
 //!   after `little` in little endian again.
 //! - `run LIMIT ..` reads the records of a stream, each time at most that many, and
 //!   `after LIMIT ..` those after the attribute at the start of the bytes. Each frame is its line
@@ -27,7 +27,9 @@
 //! - `#` begins a remark.
 #![tactic(auto)]
 
+mod asks;
 mod case;
+mod lines;
 mod perfrec;
 
 use crate::case::Case;
@@ -36,7 +38,7 @@ use std::io;
 use std::process::ExitCode;
 
 // The numbers of cases, of results, and of results that differ.
-#[derive(Drop)]
+#[derive(Copy, Clone)]
 struct Counts {
     cases: u64,
     answers: u64,
@@ -50,10 +52,7 @@ fn main(rt: HostRuntime) -> Result<ExitCode> {
         answers: 0,
         differences: 0,
     };
-    let mut case = Case::new(rt.alloc(), "");
-    for line in list.as_str().lines() {
-        replay(&rt, &mut counts, &mut case, line)?;
-    }
+    replay_all(&rt, &mut counts, list.as_str())?;
     let Counts {
         cases,
         answers,
@@ -65,6 +64,27 @@ fn main(rt: HostRuntime) -> Result<ExitCode> {
     } else {
         Ok(ExitCode::FAILURE)
     }
+}
+
+// Does what a list specifies.
+fn replay_all(rt: &HostRuntime, counts: &mut Counts, list: &str) -> Result<()> {
+    let mut case = Case::new(rt.alloc(), "");
+    let replayed = replay_lines(rt, counts, &mut case, list);
+    drop(case);
+    replayed
+}
+
+// Does what each line specifies.
+fn replay_lines<'a>(
+    rt: &HostRuntime,
+    counts: &mut Counts,
+    case: &mut Case<'a>,
+    list: &'a str,
+) -> Result<()> {
+    for line in list.lines() {
+        replay(rt, counts, case, line)?;
+    }
+    Ok(())
 }
 
 // Does what a line specifies.

@@ -5,9 +5,9 @@ use Rattle.perf_base.specs.Configuration.{Configuration}
 use Rattle.perf_base.specs.Layout.{map_parts}
 use Rattle.perf_base.specs.Splice.{Closed, IsClosed, AllClosed}
 use Rattle.perf_base.specs.Table.{present_if}
-use Rattle.perf_types.specs.ReadFormat.{has_group}
-use Rattle.perf_types.specs.ReadGroup.{read_group, group_of}
-use Rattle.perf_types.specs.ReadValue.{read_value}
+use Rattle.perf_counters.specs.ReadFormat.{has_group}
+use Rattle.perf_counters.specs.ReadGroup.{read_group, group_of}
+use Rattle.perf_counters.specs.ReadValue.{read_value}
 use Rattle.perf_sample_types.specs.Sample.{Field, FieldValue, group_is, values, branch_stack, registers, plain_field, settings_of, is_present, field_under, fields_under, sample_fields, sample_groups, moment_fields, count_fields, state_fields, cost_fields, memory_fields}
 use Rattle.perf_sample_types.proofs.LawFlags.{field_of}
 

@@ -17,9 +17,9 @@ use Rattle.perf_base.specs.Took.{took, with_reads, took_by_places}
 use Rattle.perf_base.specs.declared.error.ErrorKind.{ErrorKind}
 use Rattle.perf_base.specs.declared.error.ErrorKind.TheVariants.{Eof}
 use Rattle.perf_base.proofs.Bridge.{taken, not_taken}
-use Rattle.perf_types.specs.ReadFormat.{has_group}
-use Rattle.perf_types.specs.ReadGroup.{read_group, group_of}
-use Rattle.perf_types.specs.ReadValue.{read_value}
+use Rattle.perf_counters.specs.ReadFormat.{has_group}
+use Rattle.perf_counters.specs.ReadGroup.{read_group, group_of}
+use Rattle.perf_counters.specs.ReadValue.{read_value}
 use Rattle.perf_words.specs.Bits.{has_bit}
 use Rattle.perf_sample_types.specs.Sample.{FieldValue, group_is, Field, SampleValue, plain_field, task, cpu, values, call_chain, raw, branch_stack, registers, stack, sized_bytes, settings_of, is_present, fields_under, sample_fields, sample}
 

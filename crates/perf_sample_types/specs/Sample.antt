@@ -9,9 +9,9 @@ use Rattle.perf_base.specs.Table.{present_if, table}
 use Rattle.perf_base.specs.declared.error.ErrorKind.TheVariants.{InvalidRecord}
 use Rattle.perf_reader.specs.TableRuns.{join_groups}
 use Rattle.perf_sample_types.specs.Branches.{branches_of}
-use Rattle.perf_types.specs.ReadFormat.{has_group}
-use Rattle.perf_types.specs.ReadGroup.{GroupRead, read_group, group_of}
-use Rattle.perf_types.specs.ReadValue.{read_value}
+use Rattle.perf_counters.specs.ReadFormat.{has_group}
+use Rattle.perf_counters.specs.ReadGroup.{GroupRead, read_group, group_of}
+use Rattle.perf_counters.specs.ReadValue.{read_value}
 use Rattle.perf_sample_types.specs.Registers.{RegistersValue, registers_of}
 use Rattle.perf_words.specs.Bits.{has_bit}
 use Rattle.perf_words.specs.Branch.{Branch}

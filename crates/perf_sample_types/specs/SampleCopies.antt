@@ -1,7 +1,7 @@
 -- The two halves in which the fields of a sample that may own memory are copied.
 use Rattle.std.specs.Prelude.{ℕ, Bool, List, ◌++◌, Option, option_map}
 use Rattle.perf_base.specs.Cow.{cow_items, cow_form}
-use Rattle.perf_types.specs.ReadGroup.{GroupRead, group_read, read_group_form}
+use Rattle.perf_counters.specs.ReadGroup.{GroupRead, group_read, read_group_form}
 use Rattle.perf_words.specs.Branch.{Branch}
 use Rattle.perf_sample_types.specs.Registers.{RegistersValue, registers_value, registers_form}
 use Rattle.perf_sample_types.specs.SampleForms.{form_if}

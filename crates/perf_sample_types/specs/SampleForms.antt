@@ -2,7 +2,7 @@
 -- none.
 use Rattle.std.specs.Prelude.{Bool, List, [], ◌++◌, Option, Some, None}
 pub use Rattle.perf_base.specs.Cow.{cow_form}
-use Rattle.perf_types.specs.ReadGroup.{read_group_form}
+use Rattle.perf_counters.specs.ReadGroup.{read_group_form}
 pub use Rattle.perf_sample_types.specs.Registers.{registers_form}
 use Rattle.perf_sample_types.specs.declared.sample_parts.CallChain.{CallChain}
 use Rattle.perf_sample_types.specs.declared.sample_parts.RawData.{RawData}

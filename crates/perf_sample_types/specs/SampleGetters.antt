@@ -2,7 +2,7 @@
 -- the table, by its place there, and None if that is absent.
 use Rattle.std.specs.Prelude.{ℕ, List, get_or, Option, Some, None, option_map, IfSome, IsTrue}
 use Rattle.perf_base.specs.Cow.{cow_items, is_borrowed}
-use Rattle.perf_types.specs.ReadGroup.{GroupRead, group_read}
+use Rattle.perf_counters.specs.ReadGroup.{GroupRead, group_read}
 use Rattle.perf_sample_types.specs.Registers.{RegistersValue, registers_value}
 use Rattle.perf_sample_types.specs.Sample.{FieldValue, number_is, task_is, group_is, numbers_are, bytes_are}
 use Rattle.perf_sample_types.specs.Sample.{branches_are, registers_are, SampleValue}

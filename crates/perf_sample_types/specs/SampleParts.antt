@@ -1,13 +1,13 @@
 -- The value of a field of a sample of the code, wherever its bytes and numbers are stored.
 use Rattle.std.specs.Prelude.{option_map}
 use Rattle.perf_base.specs.Cow.{cow_items}
-use Rattle.perf_types.specs.ReadGroup.{group_read}
+use Rattle.perf_counters.specs.ReadGroup.{group_read}
 use Rattle.perf_sample_types.specs.Registers.{registers_value}
 use Rattle.perf_sample_types.specs.Sample.{FieldValue, number_is, task_is, group_is, numbers_are, bytes_are}
 use Rattle.perf_sample_types.specs.Sample.{branches_are, registers_are}
 use Rattle.perf_words.specs.SetBits.{txn_bits}
 use Rattle.perf_words.specs.declared.data_source.Txn.{Txn}
-use Rattle.perf_types.specs.declared.read_group.ReadGroup.{ReadGroup}
+use Rattle.perf_counters.specs.declared.read_group.ReadGroup.{ReadGroup}
 use Rattle.perf_sample_types.specs.declared.sample_parts.Task.{Task}
 use Rattle.perf_sample_types.specs.declared.sample_parts.Cpu.{Cpu}
 use Rattle.perf_sample_types.specs.declared.sample_parts.CallChain.{CallChain}

@@ -6,7 +6,7 @@ ghost use Rattle.perf_base.specs.Layout.{words_of};
 ghost use Rattle.perf_buffers.specs.Room.{falls_short};
 ghost use Rattle.perf_reader.specs.Prelude.{input_of, refusal_kind};
 ghost use Rattle.perf_sample_types.specs.Branches.{branch_numbers, branch_of};
-ghost use Rattle.perf_types.specs.Prelude.{Call, ReadsOne, NeedsNoMemory, flat_map, kinds, words};
+ghost use Rattle.perf_counters.specs.Prelude.{Call, ReadsOne, NeedsNoMemory, flat_map, kinds, words};
 
 use perf_base::{Endian, ReadCounter, ReadResult, Refusal};
 use perf_buffers::input::Input;

@@ -1,7 +1,7 @@
 //! The registers of a task.
 
 ghost use Rattle.perf_sample_types.specs.Registers.{registers_of, registers_value, registers_form};
-ghost use Rattle.perf_types.specs.Prelude.{Call, Reads, kinds, IsClone};
+ghost use Rattle.perf_counters.specs.Prelude.{Call, Reads, kinds, IsClone};
 
 use crate::layout::register_count;
 use perf_base::{CowSlice, Endian, ParseResult, ReadResult};

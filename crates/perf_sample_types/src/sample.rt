@@ -23,9 +23,9 @@ use crate::sample_made::{
 use bitflags::Flags;
 use perf_base::{Endian, ParseConfig, ParseResult, ReadResult};
 use perf_buffers::input::Input;
+use perf_counters::ReadGroup;
 use perf_reader::read::{HasTransition, ReadFrom};
 use perf_reader::reader::Reader;
-use perf_types::ReadGroup;
 use perf_words::{BranchEntry, DataSource, Txn};
 use std::alloc::Global;
 

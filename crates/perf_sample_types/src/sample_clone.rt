@@ -7,9 +7,9 @@ ghost use Rattle.perf_sample_types.specs.SampleForms as forms;
 ghost use Rattle.perf_sample_types.specs.SampleForms.{form_if};
 ghost use Rattle.perf_sample_types.specs.SampleGroups as groups;
 ghost use Rattle.perf_sample_types.specs.SampleParts as parts;
-ghost use Rattle.perf_types.specs.ReadGroup.{group_read, read_group_form};
+ghost use Rattle.perf_counters.specs.ReadGroup.{group_read, read_group_form};
 ghost use Rattle.perf_sample_types.specs.Registers.{registers_value, registers_form};
-ghost use Rattle.perf_types.specs.Prelude.{IsClone, cow_items};
+ghost use Rattle.perf_counters.specs.Prelude.{IsClone, cow_items};
 ghost use Rattle.perf_base.specs.Cow.{cow_form};
 
 use crate::registers::Registers;
@@ -18,7 +18,7 @@ use crate::sample_parts::{
     AuxBytes, Branches, CallChain, InterruptRegisters, RawData, Stack, UserRegisters,
 };
 use perf_base::{CowSlice, ParseResult};
-use perf_types::ReadGroup;
+use perf_counters::ReadGroup;
 use std::alloc::Global;
 
 // A field that may own memory.

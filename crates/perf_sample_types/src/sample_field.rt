@@ -8,7 +8,7 @@ ghost use Rattle.perf_base.specs.Table.{present_if};
 ghost use Rattle.perf_sample_types.specs.Sample as sample;
 ghost use Rattle.perf_sample_types.specs.Prelude.{Call, Parts, ReadsBorrowed, ReadsField, kinds};
 ghost use Rattle.perf_sample_types.specs.SampleMemory.{Lasts};
-ghost use Rattle.perf_types.specs.Prelude.{NeedsNoMemory};
+ghost use Rattle.perf_counters.specs.Prelude.{NeedsNoMemory};
 ghost use Rattle.perf_words.specs.SetBits.{sample_flags_bits};
 
 use bitflags::Flags;

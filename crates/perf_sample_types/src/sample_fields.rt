@@ -10,7 +10,7 @@ ghost use Rattle.perf_sample_types.specs.SampleGetters.{fields_getters, no_gette
 use crate::registers::Registers;
 use crate::sample_clone::{clone_group, clone_list, clone_registers};
 use perf_base::{CowSlice, ParseResult};
-use perf_types::ReadGroup;
+use perf_counters::ReadGroup;
 use perf_words::{BranchEntry, DataSource, Txn};
 use std::alloc::Global;
 

@@ -23,8 +23,8 @@ use crate::sample_row::{Row, take_flagged};
 use bitflags::Flags;
 use perf_base::{Endian, ReadResult};
 use perf_buffers::input::Input;
+use perf_counters::ReadGroup;
 use perf_reader::reader::Reader;
-use perf_types::ReadGroup;
 use perf_words::{DataSource, SampleFlags, Txn};
 
 // The flags of those groups of fields that few samples have. If none of a group's flags is set, one

@@ -5,8 +5,8 @@ ghost use Rattle.std.specs.Prelude.{◌≡◌, ◌*◌, if◌then◌else◌};
 ghost use Rattle.perf_sample_types.specs.SampleId as ids;
 ghost use Rattle.perf_sample_types.specs.SampleIdFields.{origin, after_origin, TakesOrLacks};
 ghost use Rattle.perf_sample_types.specs.Prelude as samples;
-ghost use Rattle.perf_types.specs.Prelude.{Call, ReadsPlain, kinds, configuration_of};
-ghost use Rattle.perf_types.specs.Prelude.{sample_flags_bits};
+ghost use Rattle.perf_counters.specs.Prelude.{Call, ReadsPlain, kinds, configuration_of};
+ghost use Rattle.perf_counters.specs.Prelude.{sample_flags_bits};
 
 use crate::sample::Sample;
 use bitflags::Flags;

@@ -14,11 +14,11 @@ use crate::sample_field::{ReadField, SampleField};
 use bitflags::Flags;
 use perf_base::{CowSlice, Endian, ReadResult, Refusal};
 use perf_buffers::input::Input;
+use perf_counters::group_memory::{group_of_value, read_group_over};
+use perf_counters::{ReadGroup, ReadValue};
 use perf_reader::read::ReadFrom;
 use perf_reader::reader::Reader;
 use perf_reader::spare::spare_of;
-use perf_types::group_memory::{group_of_value, read_group_over};
-use perf_types::{ReadGroup, ReadValue};
 use perf_words::{BranchEntry, DataSource, ReadFormat, Txn};
 use std::alloc::Global;
 
@@ -409,7 +409,7 @@ impl SampleField for ReadGroup<'_> {
 }
 
 impl<'p, I: Input<'p>> ReadField<'p, I> for ReadGroup<'p> {
-    #[tactic(auto, using(perf_types::proofs::Flags::read_flags, perf_reader::proofs::Calls::chain), unfolding(crate::specs::Sample::values))]
+    #[tactic(auto, using(perf_counters::proofs::Flags::read_flags, perf_reader::proofs::Calls::chain), unfolding(crate::specs::Sample::values))]
     fn read_field<E: Endian>(
         reader: &mut Reader<I, E>,
         old: &mut Option<Self>,

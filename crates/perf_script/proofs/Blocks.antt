@@ -2,7 +2,7 @@
 use Rattle.std.proofs.Common.{◌≡◌, ℕ, suc, ◌-◌, ◌*◌, ◌/◌, ◌≤◌, ◌<◌, Bool, true, false, List, ◌∷◌, length, drop, sym, ◌∙◌, ap, arith}
 use Rattle.std.proofs.lemmas.List.{length-drop}
 use Rattle.perf_base.specs.Order.{Order}
-use Rattle.perf_types.specs.GroupEntry.{block_len}
+use Rattle.perf_counters.specs.GroupEntry.{block_len}
 use Rattle.perf_script.specs.Blocks.{readings_in, first_reading}
 
 -- a block is left

@@ -2,9 +2,9 @@
 use Rattle.std.proofs.Common.{◌≡◌, ℕ, suc, ◌+◌, ◌<◌, ◌||◌, not, Bool, true, false, List, ◌∷◌, ◌++◌, map, length, drop, get_or, drop-cons, refl, sym, ◌∙◌, ap, append_assoc, arith}
 use Rattle.std.specs.Prelude.{Option, Some, None, option_map}
 use Rattle.perf_base.specs.Dynamic.{order_of}
-use Rattle.perf_file.specs.IdTables.{event_of}
-use Rattle.perf_file.specs.Opened.{File, table_of}
-use Rattle.perf_file.specs.declared.ids.IdOfEvent.{IdOfEvent}
+use Rattle.perf_sections.specs.IdTables.{event_of}
+use Rattle.perf_sections.specs.Opened.{File, table_of}
+use Rattle.perf_sections.specs.declared.ids.IdOfEvent.{IdOfEvent}
 use Rattle.perf_flat.specs.Flat.{IsFlat}
 use Rattle.perf_flat.specs.Samples.{sample_present}
 use Rattle.perf_flat.specs.declared.frame.FlatFrame.{FlatFrame}

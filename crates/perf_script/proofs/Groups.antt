@@ -19,10 +19,10 @@ use Rattle.perf_records.specs.Bodies.{body}
 use Rattle.perf_records.specs.Records.{sample_is}
 use Rattle.perf_sample_types.specs.Sample.{SampleValue, FieldValue, group_is, number_is, task_is, numbers_are, bytes_are, branches_are, registers_are, sample, sample_fields, fields_under, settings_of, values, is_present, at_flag_under}
 use Rattle.perf_sample_types.specs.SampleGetters.{getters_of, group_in}
-use Rattle.perf_types.specs.GroupEntry.{block_len, entries_of}
-use Rattle.perf_types.specs.ReadFormat.{has_counter_id, has_lost, has_group}
-use Rattle.perf_types.specs.ReadGroup.{GroupRead, only_entry}
-use Rattle.perf_types.specs.declared.group_entry.GroupEntry.{GroupEntry}
+use Rattle.perf_counters.specs.GroupEntry.{block_len, entries_of}
+use Rattle.perf_counters.specs.ReadFormat.{has_counter_id, has_lost, has_group}
+use Rattle.perf_counters.specs.ReadGroup.{GroupRead, only_entry}
+use Rattle.perf_counters.specs.declared.group_entry.GroupEntry.{GroupEntry}
 use Rattle.perf_words.specs.Bits.{has_bit}
 use Rattle.perf_walk.specs.Parts.{bytes_at}
 use Rattle.perf_walk.specs.Samples.{sample_of}

@@ -1,10 +1,10 @@
 -- The events of ids, in tables one after another.
 use Rattle.std.proofs.Common.{◌≡◌, ℕ, Bool, ◌==◌, List, [], ◌∷◌, ◌++◌, map, refl, ap}
 use Rattle.std.specs.Prelude.{Some, if◌then◌else◌}
-use Rattle.perf_file.specs.IdTables.{event_of, id_table}
-use Rattle.perf_file.specs.Opened.{FileEvent, event_view}
-use Rattle.perf_file.specs.declared.events.Event.{Event}
-use Rattle.perf_file.specs.declared.ids.IdOfEvent.{IdOfEvent}
+use Rattle.perf_sections.specs.IdTables.{event_of, id_table}
+use Rattle.perf_sections.specs.Opened.{FileEvent, event_view}
+use Rattle.perf_sections.specs.declared.events.Event.{Event}
+use Rattle.perf_sections.specs.declared.ids.IdOfEvent.{IdOfEvent}
 use Rattle.perf_script.specs.Ids.{event_or}
 
 pub if_alike : {A : Type 0} (b : Bool) (x y z : A) → y ≡ z → (if b then x else y) ≡ (if b then x else z)

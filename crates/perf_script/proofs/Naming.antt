@@ -3,10 +3,10 @@ use Rattle.std.proofs.Common.{◌≡◌, ℕ, suc, ◌+◌, ◌<◌, ◌≤◌, 
 use Rattle.std.specs.List.{enumerate_from, list_any}
 use Rattle.std.proofs.lemmas.List.{get_or-map, length-map}
 use Rattle.std.proofs.Math.ListN.{get_or-eq_default}
-use Rattle.perf_file.specs.Names.{Name, name_view, name_text}
-use Rattle.perf_file.specs.Opened.{File, FileEvent, event_view}
+use Rattle.perf_sections.specs.Names.{Name, name_view, name_text}
+use Rattle.perf_sections.specs.Opened.{File, FileEvent, event_view}
 use Rattle.perf_file.specs.Views.{view}
-use Rattle.perf_file.specs.declared.events.Event.{Event}
+use Rattle.perf_sections.specs.declared.events.Event.{Event}
 use Rattle.perf_file.specs.declared.opening.Recording.{Recording}
 use Rattle.perf_walk.specs.declared.filtering.Filter.{Filter}
 use Rattle.perf_script.specs.ScriptText.{Choice, choice_by}

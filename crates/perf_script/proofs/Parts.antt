@@ -4,7 +4,7 @@ use Rattle.std.specs.Prelude.{IsTrue, Option, Result, Ok, Err}
 use Rattle.std.specs.Io.KnownBytes.{Appends}
 use Rattle.std.proofs.Math.Seq.{take-append_seam}
 use Rattle.std.proofs.lemmas.List.{take-append-drop}
-use Rattle.perf_file.specs.Opened.{File}
+use Rattle.perf_sections.specs.Opened.{File}
 use Rattle.perf_file.specs.declared.entries.Entry.{Entry}
 use Rattle.perf_lines.specs.declared.outcome.Outcome.{Outcome}
 use Rattle.perf_lines.specs.declared.outcome.Outcome.TheVariants as outcome
@@ -16,9 +16,9 @@ use Rattle.perf_script.specs.ScriptText.{Choice, any_refused, choice_by, text_fr
 use Rattle.perf_script.specs.UnderWay.{IsUnderWay}
 use Rattle.perf_file.specs.Forms.{opened, event_name}
 use Rattle.perf_file.specs.Entries.{entries_of, IsInOrder}
-use Rattle.perf_file.specs.Opens.{Fails}
-use Rattle.perf_file.specs.declared.error.OpenError.{OpenError}
-use Rattle.perf_file.specs.declared.error.OpenError.TheVariants as opens
+use Rattle.perf_sections.specs.Opens.{Fails}
+use Rattle.perf_sections.specs.declared.error.OpenError.{OpenError}
+use Rattle.perf_sections.specs.declared.error.OpenError.TheVariants as opens
 use Rattle.perf_walk.specs.declared.filtering.Filter.{Filter}
 use Rattle.perf_script.specs.Written.{WritesScript, script_result}
 use Rattle.std.specs.declared.alloc.AllocError.{AllocError}

@@ -1,8 +1,8 @@
 -- Texts do not depend on where byte strings are.
 use Rattle.std.proofs.Common.{◌≡◌, ℕ, List, [], ◌∷◌, ◌++◌, ◌==◌, ◌&&◌, ◌||◌, not, Bool, map, refl, sym, ◌∙◌, ap, codes, if◌then◌else◌}
 use Rattle.std.specs.Prelude.{Option, Some, None, option_map}
-use Rattle.perf_file.specs.declared.ids.IdOfEvent.{IdOfEvent}
-use Rattle.perf_file.specs.IdTables.{event_of}
+use Rattle.perf_sections.specs.declared.ids.IdOfEvent.{IdOfEvent}
+use Rattle.perf_sections.specs.IdTables.{event_of}
 use Rattle.perf_history.specs.Histories.{name_of, place_of}
 use Rattle.perf_history.specs.declared.changes.Change.{Change}
 use Rattle.perf_history.specs.declared.changes.Mode.{Mode}

@@ -1,7 +1,7 @@
 -- A text that is being made goes on by a frame.
 use Rattle.std.proofs.Common.{◌≡◌, ℕ, Bool, List, [], ◌∷◌, ◌++◌, ◌||◌, true, false, refl, sym, ◌∙◌, ap, append-nil}
 use Rattle.std.specs.Prelude.{Some, None}
-use Rattle.perf_file.specs.Opened.{File}
+use Rattle.perf_sections.specs.Opened.{File}
 use Rattle.perf_file.specs.Views.{view}
 use Rattle.perf_file.specs.declared.entries.Entry.{Entry}
 use Rattle.perf_file.specs.declared.opening.Recording.{Recording}

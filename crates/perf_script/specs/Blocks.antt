@@ -3,7 +3,7 @@ use Rattle.std.specs.Prelude.{ℕ, zero, suc, ◌*◌, ◌/◌, ◌==◌, Bool, 
 use Rattle.perf_base.specs.Order.{Order}
 use Rattle.perf_flat.specs.declared.frame.Span.{Span}
 use Rattle.perf_walk.specs.Parts.{bytes_at}
-use Rattle.perf_types.specs.GroupEntry.{block_len}
+use Rattle.perf_counters.specs.GroupEntry.{block_len}
 use Rattle.perf_script.specs.declared.readings.Reading.{Reading}
 
 -- the counter at the front of bytes: its value, and its id if there is one

@@ -1,14 +1,14 @@
 -- Counters that are read in samples.
 use Rattle.std.specs.Prelude.{ℕ, ◌==◌, not, List, [], ◌∷◌, ◌++◌, map, Bool, true, false, Option, Some, None, option_map, option_to_list}
 use Rattle.perf_base.specs.Attribute.{or_zero}
-use Rattle.perf_file.specs.IdTables.{event_of}
-use Rattle.perf_file.specs.declared.ids.IdOfEvent.{IdOfEvent}
+use Rattle.perf_sections.specs.IdTables.{event_of}
+use Rattle.perf_sections.specs.declared.ids.IdOfEvent.{IdOfEvent}
 use Rattle.perf_history.specs.declared.changes.Change.{Change}
 use Rattle.perf_sample_types.specs.Sample.{SampleValue}
 use Rattle.perf_sample_types.specs.SampleGetters.{getters_of}
-use Rattle.perf_types.specs.ReadFormat.{has_group}
-use Rattle.perf_types.specs.ReadGroup.{GroupRead, only_entry}
-use Rattle.perf_types.specs.declared.group_entry.GroupEntry.{GroupEntry}
+use Rattle.perf_counters.specs.ReadFormat.{has_group}
+use Rattle.perf_counters.specs.ReadGroup.{GroupRead, only_entry}
+use Rattle.perf_counters.specs.declared.group_entry.GroupEntry.{GroupEntry}
 use Rattle.perf_script.specs.Labels.{EventLabel, label_at, with_period}
 use Rattle.perf_script.specs.Moved.{moved}
 use Rattle.perf_script.specs.Heads.{text_if}

@@ -1,9 +1,9 @@
 -- How events are labelled.
 use Rattle.std.specs.Prelude.{◌≡◌, ◌<◌, ℕ, Bool, true, List, [], ◌∷◌, ◌++◌, codes, get_or, length, map, max, slice_index_or}
 use Rattle.std.specs.List.{enumerate_from, list_any}
-use Rattle.perf_file.specs.Names.{Name, name_view, name_text}
-use Rattle.perf_file.specs.Opened.{FileEvent, event_view}
-use Rattle.perf_file.specs.declared.events.Event.{Event}
+use Rattle.perf_sections.specs.Names.{Name, name_view, name_text}
+use Rattle.perf_sections.specs.Opened.{FileEvent, event_view}
+use Rattle.perf_sections.specs.declared.events.Event.{Event}
 use Rattle.perf_file.specs.declared.opening.Recording.{Recording}
 use Rattle.perf_walk.specs.Filters.{takes_event}
 use Rattle.perf_walk.specs.declared.filtering.Filter.{Filter}

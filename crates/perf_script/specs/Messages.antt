@@ -1,6 +1,6 @@
 -- What a refusal says.
 use Rattle.std.specs.Prelude.{ℕ, List, codes}
-use Rattle.perf_file.specs.Messages as files
+use Rattle.perf_sections.specs.Messages as files
 use Rattle.perf_script.specs.declared.error.ScriptError.{ScriptError}
 use Rattle.perf_script.specs.declared.error.ScriptError.TheVariants as errors
 

@@ -5,10 +5,10 @@ use Rattle.perf_base.specs.Configuration.{Configuration}
 use Rattle.perf_base.specs.Dynamic.{order_of}
 use Rattle.perf_base.specs.Header.{header_of}
 use Rattle.perf_file.specs.Entries.{entries_of, IsInOrder}
-use Rattle.perf_file.specs.Names.{Name}
-use Rattle.perf_file.specs.Opened.{File, FileEvent, table_of}
+use Rattle.perf_sections.specs.Names.{Name}
+use Rattle.perf_sections.specs.Opened.{File, FileEvent, table_of}
 use Rattle.perf_file.specs.declared.entries.Entry.{Entry}
-use Rattle.perf_file.specs.declared.ids.IdOfEvent.{IdOfEvent}
+use Rattle.perf_sections.specs.declared.ids.IdOfEvent.{IdOfEvent}
 use Rattle.perf_flat.specs.Samples.{sample_present}
 use Rattle.perf_history.specs.declared.changes.Change.{Change}
 use Rattle.perf_records.specs.Answers.{answer_of_frame}

@@ -1,7 +1,7 @@
 -- A text that is being made.
 use Rattle.std.specs.Prelude.{◌≡◌, ℕ, Bool, List, [], ◌++◌, ◌||◌, true, false, map}
-use Rattle.perf_file.specs.IdTables.{event_of}
-use Rattle.perf_file.specs.Opened.{File, table_of}
+use Rattle.perf_sections.specs.IdTables.{event_of}
+use Rattle.perf_sections.specs.Opened.{File, table_of}
 use Rattle.perf_file.specs.Views.{view}
 use Rattle.perf_file.specs.declared.entries.Entry.{Entry}
 use Rattle.perf_file.specs.declared.opening.Recording.{Recording}

@@ -2,7 +2,7 @@
 use Rattle.std.specs.Prelude.{◌≡◌, ℕ, Bool, true, false, List, [], ◌++◌, take, Option, Result, Ok, Err}
 use Rattle.std.specs.Io.KnownBytes.{Appends}
 use Rattle.std.specs.declared.alloc.AllocError.{AllocError}
-use Rattle.perf_file.specs.Opened.{File}
+use Rattle.perf_sections.specs.Opened.{File}
 use Rattle.perf_file.specs.declared.entries.Entry.{Entry}
 use Rattle.perf_lines.specs.declared.outcome.Outcome.{Outcome}
 use Rattle.perf_lines.specs.declared.outcome.Outcome.TheVariants as outcome

@@ -3,9 +3,9 @@ use Rattle.std.specs.Prelude.{◌≡◌, ◌⊎◌, ℕ, Bool, true, false, List
 use Rattle.perf_lines.specs.declared.outcome.Outcome.{Outcome}
 use Rattle.std.specs.declared.alloc.AllocError.{AllocError}
 use Rattle.perf_file.specs.Forms.{opened, event_name}
-use Rattle.perf_file.specs.Opened.{File}
-use Rattle.perf_file.specs.Opens.{Fails}
-use Rattle.perf_file.specs.declared.error.OpenError.TheVariants as opens
+use Rattle.perf_sections.specs.Opened.{File}
+use Rattle.perf_sections.specs.Opens.{Fails}
+use Rattle.perf_sections.specs.declared.error.OpenError.TheVariants as opens
 use Rattle.perf_lines.specs.Outcomes.{status_of}
 use Rattle.perf_walk.specs.declared.filtering.Filter.{Filter}
 use Rattle.perf_script.specs.Labels.{any_counts, labels_by}

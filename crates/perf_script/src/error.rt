@@ -1,7 +1,7 @@
 //! Why the text of a recording is not written.
 
 ghost use Rattle.std.specs.Prelude.{◌≡◌, Some};
-ghost use Rattle.perf_file.specs.declared.error.OpenError.TheVariants as opens;
+ghost use Rattle.perf_sections.specs.declared.error.OpenError.TheVariants as opens;
 ghost use Rattle.perf_script.specs.Messages as messages;
 ghost use Rattle.perf_script.specs.declared.error.ScriptError.TheVariants as errors;
 

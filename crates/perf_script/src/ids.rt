@@ -3,8 +3,8 @@
 ghost use Rattle.std.specs.Prelude.{◌≡◌, ◌==◌, ℕ, Some, IfOk, OnOk, if◌then◌else◌};
 ghost use Rattle.std.specs.BTreeMap.{get};
 ghost use Rattle.std.specs.Ordering.{nat_cmp};
-ghost use Rattle.perf_file.specs.IdTables.{event_of, ids_of};
-ghost use Rattle.perf_file.specs.Opened.{table_of};
+ghost use Rattle.perf_sections.specs.IdTables.{event_of, ids_of};
+ghost use Rattle.perf_sections.specs.Opened.{table_of};
 ghost use Rattle.perf_file.specs.Views.{view};
 ghost use Rattle.perf_script.specs.Ids.{Adds, finds};
 

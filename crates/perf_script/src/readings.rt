@@ -6,7 +6,7 @@ ghost use Rattle.perf_base.specs.Dynamic.{order_of};
 ghost use Rattle.perf_flat.specs.Flat.{IsFlat};
 ghost use Rattle.perf_flat.specs.Strings.{span_at};
 ghost use Rattle.perf_sample_types.specs.Sample.{SampleValue};
-ghost use Rattle.perf_types.specs.GroupEntry.{block_len};
+ghost use Rattle.perf_counters.specs.GroupEntry.{block_len};
 ghost use Rattle.perf_walk.specs.Parts.{bytes_at};
 ghost use Rattle.perf_walk.specs.Samples.{sample_of};
 ghost use Rattle.perf_words.specs.Bits.{has_bit};

@@ -4,7 +4,7 @@ ghost use Rattle.std.specs.List.{list_any};
 ghost use Rattle.std.specs.Prelude.{◌≡◌, ◌<◌, ◌≤◌, ◌++◌, ◌∷◌, ℕ, Bool, [], Some, IfOk, OnOk, List, MatchOption, length, map, slice_index_or};
 ghost use Rattle.perf_base.specs.Configuration.{Configuration};
 ghost use Rattle.perf_base.specs.Dynamic.{order_of};
-ghost use Rattle.perf_file.specs.Opened.{File, table_of};
+ghost use Rattle.perf_sections.specs.Opened.{File, table_of};
 ghost use Rattle.perf_file.specs.Views.{view};
 ghost use Rattle.perf_history.specs.Recorded.{IsHistory};
 ghost use Rattle.perf_history.specs.declared.changes.Change.{Change};

@@ -2,7 +2,7 @@
 
 ghost use Rattle.std.specs.Prelude.{◌≡◌, ◌∷◌, [], ℕ, Bool, IsTrue, List, Ok, Option};
 ghost use Rattle.std.specs.Io.KnownBytes.{Appends};
-ghost use Rattle.perf_file.specs.Opened.{File};
+ghost use Rattle.perf_sections.specs.Opened.{File};
 ghost use Rattle.perf_file.specs.Views.{view};
 ghost use Rattle.perf_script.specs.ScriptText.{Choice};
 ghost use Rattle.perf_script.specs.UnderWay.{AreChosen};

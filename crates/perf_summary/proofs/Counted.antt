@@ -1,7 +1,7 @@
 -- The frames of a file, counted one after another.
 use Rattle.std.proofs.Common.{◌≡◌, ◌<◌, ◌^◌, List, [], ◌∷◌, ◌++◌, length, map, sym, ap, ◌∙◌, append_assoc, append-nil, subst, arith}
 use Rattle.std.proofs.lemmas.List.{map-append, length-map}
-use Rattle.perf_file.specs.Opened.{File}
+use Rattle.perf_sections.specs.Opened.{File}
 use Rattle.perf_file.specs.Pieces.{Piece, pieces_of}
 use Rattle.perf_data_text.proofs.InTurn.{pieces_below}
 use Rattle.perf_summary.specs.Contents.{contents_of, all_contents}

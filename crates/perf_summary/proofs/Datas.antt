@@ -4,9 +4,9 @@ use Rattle.std.specs.Prelude.{count_by}
 use Rattle.std.proofs.lemmas.List.{take_more, length-take-le}
 use Rattle.serde_json.specs.Data.{Data}
 use Rattle.perf_file.specs.FeatureTexts.{text_of, command_line_of}
-use Rattle.perf_file.specs.Names.{Name, name_view, name_text}
-use Rattle.perf_file.specs.Opened.{File, FileEvent, event_view}
-use Rattle.perf_file.specs.declared.events.Event.{Event}
+use Rattle.perf_sections.specs.Names.{Name, name_view, name_text}
+use Rattle.perf_sections.specs.Opened.{File, FileEvent, event_view}
+use Rattle.perf_sections.specs.declared.events.Event.{Event}
 use Rattle.perf_summary.specs.Counts.{AreCounts, is_refused, event_count, of_event, type_count, other_count}
 use Rattle.perf_summary.specs.OwnData.{own_events_data, own_types_data, own_data}
 use Rattle.perf_summary.specs.Steps.{no_count}

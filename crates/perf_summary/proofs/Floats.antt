@@ -7,8 +7,8 @@ use Rattle.serde_json.specs.View.{items_of}
 use Rattle.serde_json.specs.Written.{has_float, items_have_float}
 use Rattle.perf_base.specs.declared.endian.Dynamic.{Dynamic}
 use Rattle.perf_file.specs.FeatureTexts.{text_of, command_line_of}
-use Rattle.perf_file.specs.Names.{name_view, name_text}
-use Rattle.perf_file.specs.declared.events.Event.{Event}
+use Rattle.perf_sections.specs.Names.{name_view, name_text}
+use Rattle.perf_sections.specs.declared.events.Event.{Event}
 use Rattle.perf_file.specs.declared.feature.BadFeature.{BadFeature}
 use Rattle.perf_summary.specs.OwnData.{own_events_data, own_types_data, own_data}
 use Rattle.perf_summary.specs.Datas.{number_data}

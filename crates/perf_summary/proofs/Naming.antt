@@ -2,9 +2,9 @@
 use Rattle.std.proofs.Common.{◌≡◌, ℕ, zero, suc, ◌+◌, ◌<◌, List, [], ◌∷◌, ◌++◌, map, length, take, get_or, refl, sym, ap, ◌∙◌, add-zero, zero-add, append-nil, append_assoc, arith}
 use Rattle.std.specs.Prelude.{count_by}
 use Rattle.std.proofs.lemmas.List.{take_more, length-take-le}
-use Rattle.perf_file.specs.Names.{Name, name_view, name_text}
-use Rattle.perf_file.specs.Opened.{FileEvent, event_view}
-use Rattle.perf_file.specs.declared.events.Event.{Event}
+use Rattle.perf_sections.specs.Names.{Name, name_view, name_text}
+use Rattle.perf_sections.specs.Opened.{FileEvent, event_view}
+use Rattle.perf_sections.specs.declared.events.Event.{Event}
 use Rattle.perf_summary.specs.Counts.{AreCounts, is_refused, event_count, of_event, type_count}
 use Rattle.perf_summary.specs.OwnLines.{own_event_lines, own_type_lines, own_text}
 use Rattle.perf_summary.specs.Steps.{no_count}

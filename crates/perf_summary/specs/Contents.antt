@@ -17,7 +17,7 @@ use Rattle.perf_records.specs.Sights.{Sight, whole, bad}
 use Rattle.perf_sample_types.specs.SampleGetters.{getters_of}
 use Rattle.perf_words.specs.Bits.{has_bit}
 use Rattle.perf_file.specs.Entries.{config_of, event_at, time_of}
-use Rattle.perf_file.specs.Opened.{File, FileEvent}
+use Rattle.perf_sections.specs.Opened.{File, FileEvent}
 use Rattle.perf_file.specs.Payloads.{has_payload}
 use Rattle.perf_file.specs.Pieces.{Piece, header_seen, pieces_of}
 use Rattle.perf_file.specs.declared.owning.Owner.{Owner}

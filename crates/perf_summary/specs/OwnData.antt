@@ -4,8 +4,8 @@ use Rattle.std.specs.List.{enumerate_from}
 use Rattle.serde_json.specs.Data.{Data}
 use Rattle.perf_base.specs.declared.endian.Dynamic.{Dynamic}
 use Rattle.perf_file.specs.FeatureTexts.{text_of, command_line_of}
-use Rattle.perf_file.specs.Names.{name_view, name_text}
-use Rattle.perf_file.specs.declared.events.Event.{Event}
+use Rattle.perf_sections.specs.Names.{name_view, name_text}
+use Rattle.perf_sections.specs.declared.events.Event.{Event}
 use Rattle.perf_summary.specs.Steps.{no_count}
 use Rattle.perf_summary.specs.ThreadText.{threads_data}
 use Rattle.perf_summary.specs.SummaryJson.{event_data, types_data, other_data, parts_data, feature_data, words_data, printed_data}

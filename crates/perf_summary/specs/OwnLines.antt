@@ -1,8 +1,8 @@
 -- The lines of counts, of which some are appended at a time. Private contracts use this form.
 use Rattle.std.specs.Prelude.{ℕ, List, ◌++◌, length, slice_index_or}
 use Rattle.std.specs.List.{flat_map, enumerate_from}
-use Rattle.perf_file.specs.Names.{name_view, name_text}
-use Rattle.perf_file.specs.declared.events.Event.{Event}
+use Rattle.perf_sections.specs.Names.{name_view, name_text}
+use Rattle.perf_sections.specs.declared.events.Event.{Event}
 use Rattle.perf_summary.specs.SummaryText.{frames_line, event_line, type_lines, other_line}
 use Rattle.perf_summary.specs.Steps.{no_count}
 use Rattle.perf_summary.specs.declared.counts.Counts.{Counts}

@@ -1,10 +1,10 @@
 -- What is written of a file.
 use Rattle.std.specs.Prelude.{◌≡◌, ℕ, List, Option, Result, Ok, Err}
 use Rattle.perf_file.specs.Forms.{opened, event_name}
-use Rattle.perf_file.specs.Names.{Name}
-use Rattle.perf_file.specs.Opened.{File, FileEvent}
-use Rattle.perf_file.specs.Opens.{Fails}
-use Rattle.perf_file.specs.declared.error.OpenError.{OpenError}
+use Rattle.perf_sections.specs.Names.{Name}
+use Rattle.perf_sections.specs.Opened.{File, FileEvent}
+use Rattle.perf_sections.specs.Opens.{Fails}
+use Rattle.perf_sections.specs.declared.error.OpenError.{OpenError}
 use Rattle.perf_lines.specs.declared.outcome.Outcome.{Outcome}
 use Rattle.perf_data_text.specs.Shown.{Writes}
 use Rattle.perf_threads.specs.Threads.{AreThreadsOf}

@@ -4,8 +4,8 @@ use Rattle.std.specs.List.{enumerate_from}
 use Rattle.serde_json.specs.Data.{Data, null, boolean, string, object, member, no_members}
 use Rattle.serde_json.specs.Written.{compact_text}
 use Rattle.perf_file.specs.FeatureTexts.{text_of, command_line_of}
-use Rattle.perf_file.specs.Names.{Name, name_text}
-use Rattle.perf_file.specs.Opened.{File, FileEvent}
+use Rattle.perf_sections.specs.Names.{Name, name_text}
+use Rattle.perf_sections.specs.Opened.{File, FileEvent}
 use Rattle.perf_file.specs.declared.feature.BadFeature.{BadFeature}
 use Rattle.perf_data_text.specs.HeaderText.{printed}
 use Rattle.perf_summary.specs.Contents.{all_contents}

@@ -3,8 +3,8 @@ use Rattle.std.specs.Prelude.{ℕ, zero, suc, ◌==◌, Bool, ◌||◌, not, Lis
 use Rattle.std.specs.List.{flat_map, enumerate_from}
 use Rattle.perf_base.specs.declared.endian.Dynamic.{Dynamic}
 use Rattle.perf_file.specs.FeatureTexts.{text_of, command_line_of}
-use Rattle.perf_file.specs.Names.{Name, name_text}
-use Rattle.perf_file.specs.Opened.{File, FileEvent}
+use Rattle.perf_sections.specs.Names.{Name, name_text}
+use Rattle.perf_sections.specs.Opened.{File, FileEvent}
 use Rattle.perf_data_text.specs.HeaderText.{feature_lines, text_line, words_line}
 use Rattle.perf_summary.specs.Contents.{all_contents}
 use Rattle.perf_summary.specs.Counts.{is_refused, event_count, of_event, type_count, other_count}

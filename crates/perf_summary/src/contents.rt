@@ -10,7 +10,7 @@ ghost use Rattle.perf_buffers.specs.Prelude.{chunk_bytes};
 ghost use Rattle.perf_records.specs.Answers.{answer_after};
 ghost use Rattle.perf_records.specs.Bodies.{body};
 ghost use Rattle.perf_file.specs.Entries.{time_of};
-ghost use Rattle.perf_file.specs.Opened.{event_view};
+ghost use Rattle.perf_sections.specs.Opened.{event_view};
 ghost use Rattle.perf_file.specs.Pieces.{piece_of};
 ghost use Rattle.perf_file.specs.Views.{view};
 ghost use Rattle.perf_summary.specs.Contents as contents;

@@ -4,8 +4,8 @@ ghost use Rattle.std.specs.Prelude.{◌≡◌, ◌++◌, ℕ, [], Some, IfOk, On
 ghost use Rattle.serde_json.specs.View.{view as data_of};
 ghost use Rattle.perf_file.specs.FeatureTable.{seen};
 ghost use Rattle.perf_file.specs.FeatureTexts.{words_left};
-ghost use Rattle.perf_file.specs.Names.{Name, name_view, name_text};
-ghost use Rattle.perf_file.specs.Opened.{FileEvent};
+ghost use Rattle.perf_sections.specs.Names.{Name, name_view, name_text};
+ghost use Rattle.perf_sections.specs.Opened.{FileEvent};
 ghost use Rattle.perf_file.specs.Views.{view};
 ghost use Rattle.perf_data_text.specs.OwnNames.{AreNamedBy};
 ghost use Rattle.perf_threads.specs.Threads.{plain_threads};

@@ -1,8 +1,8 @@
 //! The engine of the command: opens a file and writes its summary.
 
 ghost use Rattle.std.specs.Prelude.{◌≡◌, ℕ, IfOk, List, string_bytes};
-ghost use Rattle.perf_file.specs.Names.{Name};
-ghost use Rattle.perf_file.specs.Opened.{FileEvent};
+ghost use Rattle.perf_sections.specs.Names.{Name};
+ghost use Rattle.perf_sections.specs.Opened.{FileEvent};
 ghost use Rattle.perf_file.specs.Views.{view};
 ghost use Rattle.perf_data_text.specs.OwnNames.{AreNamedBy};
 ghost use Rattle.perf_data_text.specs.Shown.{Writes};

@@ -1,8 +1,8 @@
 //! The summary of a file as lines of text.
 
 ghost use Rattle.std.specs.Prelude.{◌≡◌, ◌<◌, ◌++◌, ◌||◌, ℕ, not, IfOk, OnOk, length, slice_index_or, string_bytes};
-ghost use Rattle.perf_file.specs.Names.{Name, name_view, name_text};
-ghost use Rattle.perf_file.specs.Opened.{FileEvent};
+ghost use Rattle.perf_sections.specs.Names.{Name, name_view, name_text};
+ghost use Rattle.perf_sections.specs.Opened.{FileEvent};
 ghost use Rattle.perf_file.specs.Pieces.{pieces_of};
 ghost use Rattle.perf_file.specs.Views.{view};
 ghost use Rattle.perf_data_text.specs.OwnNames.{AreNamedBy};

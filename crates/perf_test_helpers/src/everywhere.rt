@@ -1,4 +1,4 @@
-//! A text over each of many buffers.
+//! Buffers over the same bytes.
 
 use perf_event_data::endian::{Endian, Native};
 use perf_event_data::parse::{ParseBuf, ParseConfig, Parser};
@@ -42,12 +42,6 @@ pub const OTHERS: [Buffer; 11] = [
     Buffer::Pieces(64, false),
 ];
 
-/// What parsers over many buffers are asked for.
-pub trait Question {
-    /// The results of a parser over a buffer of these bytes.
-    fn text_over(&self, alloc: Global, bytes: &[u8], buffer: Buffer) -> Result<String, AllocError>;
-}
-
 /// What the method `text_of` of a question makes of a buffer of these bytes. (A trait cannot have
 /// that method: its contract would name the lifetime of the buffer.)
 #[macro_export]
@@ -77,6 +71,27 @@ pub fn add_other(others: &mut String, actual: &str, first: &str) -> Result<(), A
     }
 }
 
+/// What parsers over many buffers are asked for.
+pub trait Question {
+    /// The results of a parser over a buffer of these bytes.
+    fn text_over(&self, alloc: Global, bytes: &[u8], buffer: Buffer) -> Result<String, AllocError>;
+}
+
+/// Appends the texts over these buffers that differ from the first.
+pub fn add_over<Q: Question>(
+    others: &mut String,
+    bytes: &[u8],
+    question: &Q,
+    buffers: &[Buffer],
+    first: &str,
+) -> Result<(), AllocError> {
+    for &buffer in buffers {
+        let actual = question.text_over(*others.allocator(), bytes, buffer)?;
+        add_other(others, actual.as_str(), first)?;
+    }
+    Ok(())
+}
+
 /// The text over a slice, buffered readers and pieces of these bytes: one text if it is the same
 /// over all of them, and otherwise the others after it.
 pub fn text_everywhere<Q: Question>(
@@ -84,12 +99,8 @@ pub fn text_everywhere<Q: Question>(
     bytes: &[u8],
     question: &Q,
 ) -> Result<String, AllocError> {
-    let mut text = question.text_over(alloc, bytes, Buffer::Slice)?;
-    let mut others = String::new(alloc);
-    for &buffer in &OTHERS {
-        let actual = question.text_over(alloc, bytes, buffer)?;
-        add_other(&mut others, actual.as_str(), text.as_str())?;
-    }
-    text.push_str(others.as_str())?;
+    let first = question.text_over(alloc, bytes, Buffer::Slice)?;
+    let mut text = String::from_str(alloc, first.as_str())?;
+    add_over(&mut text, bytes, question, &OTHERS, first.as_str())?;
     Ok(text)
 }

@@ -2,7 +2,6 @@
 //! It asserts nothing, as a library may not end a process.
 #![tactic(auto)]
 
-pub mod asks;
 pub mod attributes;
 pub mod everywhere;
 pub mod frames;

@@ -7,14 +7,14 @@ use perf_event_data::endian::{Endian, Little};
 use perf_event_data::parse::{ParseConfig, ParseResult, Parser};
 use perf_event_data::sys::perf_event_attr;
 use perf_event_data::{
-    BadFrame, Frame, FrameHandler, Partial, PartialVisitor, RecordMetadata, Sample, SampleFields,
-    each_frame, frames, read_records,
+    BadFrame, Frame, FrameHandler, Partial, PartialVisitor, RecordMetadata, Run, Sample,
+    SampleFields, each_frame, frames, read_records,
 };
 use std::alloc::{AllocError, Global};
 
-// Handles no type of record.
+/// Handles no type of record.
 #[derive(Drop)]
-struct Nothing;
+pub struct Nothing;
 
 impl PartialVisitor for Nothing {
     type Output = ();
@@ -62,22 +62,30 @@ impl<'p, E: Endian> FrameHandler<'p, E> for Last {
     }
 }
 
-fn by_each_frame(alloc: Global, mut parser: Parser<&[u8], Little>) -> Result<String, AllocError> {
+fn by_each_frame(alloc: Global, parser: &mut Parser<&[u8], Little>) -> Result<String, AllocError> {
     let mut last = Last {
         alloc,
         text: String::from_str(alloc, "no frame"),
     };
-    each_frame(&mut parser, 1, &mut last);
+    each_frame(parser, 1, &mut last);
     last.text
 }
 
-fn by_read_records(alloc: Global, mut parser: Parser<&[u8], Little>) -> Result<String, AllocError> {
-    let run = read_records(&mut parser, 1);
-    let text = match run.frames.first() {
+// That of the first frame of a run.
+fn message_of_first(alloc: Global, run: &Run<'_>) -> Result<String, AllocError> {
+    match run.frames.first() {
         Some((_, Err(error))) => format!(in alloc; "{error}"),
         Some((_, Ok(_))) => String::from_str(alloc, "accepted"),
         None => String::from_str(alloc, "no frame"),
-    };
+    }
+}
+
+fn by_read_records(
+    alloc: Global,
+    parser: &mut Parser<&[u8], Little>,
+) -> Result<String, AllocError> {
+    let run = read_records(parser, 1);
+    let text = message_of_first(alloc, &run);
     drop(run);
     text
 }
@@ -109,6 +117,21 @@ fn by_frame(
     }
 }
 
+fn by_found(
+    alloc: Global,
+    call: &str,
+    config: &ParseConfig<Little>,
+    found: Result<Frame<'_, '_>, BadFrame>,
+) -> Result<String, AllocError> {
+    if call == "frames" {
+        return message_of_found(alloc, found);
+    }
+    match found {
+        Ok(frame) => by_frame(alloc, call, config, &frame),
+        Err(_) => String::from_str(alloc, "no frame"),
+    }
+}
+
 // The message by a call of a frame of a list.
 fn by_list(
     alloc: Global,
@@ -116,10 +139,24 @@ fn by_list(
     config: &ParseConfig<Little>,
     bytes: &[u8],
 ) -> Result<String, AllocError> {
-    match (call, frames(bytes, Little).next()) {
-        ("frames", Some(found)) => message_of_found(alloc, found),
-        (_, Some(Ok(frame))) => by_frame(alloc, call, config, &frame),
-        _ => String::from_str(alloc, "no frame"),
+    match frames(bytes, Little).next() {
+        Some(found) => by_found(alloc, call, config, found),
+        None => String::from_str(alloc, "no frame"),
+    }
+}
+
+fn by_parser(
+    alloc: Global,
+    call: &str,
+    parser: &mut Parser<&[u8], Little>,
+    bytes: &[u8],
+) -> Result<String, AllocError> {
+    match call {
+        "each_frame" => by_each_frame(alloc, parser),
+        "read_records" => by_read_records(alloc, parser),
+        "parse_record" => message_of(alloc, parser.parse_record(Partial(Nothing))),
+        "parse_metadata" => message_of(alloc, parser.parse_metadata()),
+        _ => by_list(alloc, call, parser.config(), bytes),
     }
 }
 
@@ -131,13 +168,9 @@ fn reason(
     bytes: &[u8],
 ) -> Result<String, AllocError> {
     let mut parser = parser_of(alloc, bytes, Little, attr);
-    match call {
-        "each_frame" => by_each_frame(alloc, parser),
-        "read_records" => by_read_records(alloc, parser),
-        "parse_record" => message_of(alloc, parser.parse_record(Partial(Nothing))),
-        "parse_metadata" => message_of(alloc, parser.parse_metadata()),
-        _ => by_list(alloc, call, parser.config(), bytes),
-    }
+    let text = by_parser(alloc, call, &mut parser, bytes);
+    drop(parser);
+    text
 }
 
 /// What each of these calls returns for the first frame of a stream in little endian, under an
@@ -150,12 +183,11 @@ pub fn reasons(
     bytes: &[u8],
 ) -> Result<String, AllocError> {
     let (first, others) = calls.split_once(' ').unwrap_or((calls, calls));
-    let mut text = reason(alloc, first, attr, bytes)?;
-    let mut differing = String::new(alloc);
+    let first = reason(alloc, first, attr, bytes)?;
+    let mut text = String::from_str(alloc, first.as_str())?;
     for call in others.split(' ') {
         let other = reason(alloc, call, attr, bytes)?;
-        add_other(&mut differing, other.as_str(), text.as_str())?;
+        add_other(&mut text, other.as_str(), first.as_str())?;
     }
-    text.push_str(differing.as_str())?;
     Ok(text)
 }

@@ -2,32 +2,25 @@
 
 ghost use Rattle.std.specs.Prelude.{⊤};
 
-use crate::asks::{next_attribute, next_record};
-use crate::everywhere::{Buffer, Question, add_other, parser_of, text_everywhere};
+use crate::everywhere::{Buffer, OTHERS, Question, add_other, add_over, parser_of};
 use crate::over_buffer;
-use crate::texts::{FrameLine, WriteText, write_error, write_frame, write_last};
+use crate::texts::{WriteLine, write_error, write_frame, write_last_frame};
 use perf_event_data::endian::{Endian, Little, Native};
-use perf_event_data::parse::{ErrorKind, ParseBuf, ParseConfig, ParseError, ParseResult, Parser};
+use perf_event_data::parse::{
+    ErrorKind, Parse, ParseBuf, ParseConfig, ParseError, ParseResult, Parser,
+};
 use perf_event_data::sys::{perf_event_attr, perf_event_header};
 use perf_event_data::{
     BadFrame, Frame as WholeFrame, FrameHandler, FrameRun, PieceBuf, Record, Run, RunEnd,
     each_frame, frames, read_records,
 };
-use perf_test_inputs::configurations::write_config;
 use std::alloc::{AllocError, Global};
 use std::io::BufReader;
 
+// ---- the text of a run
+
 // The header of a frame, and its result.
 type Frame<'a> = (perf_event_header, ParseResult<Record<'a>>);
-
-// Writes the line of each frame, with a semicolon after it.
-fn write_frames(text: &mut String, frames: &[Frame<'_>]) -> Result<(), AllocError> {
-    for (index, (header, answer)) in frames.iter().enumerate() {
-        write_frame(text, index, header, answer)?;
-        text.push_str("; ")?;
-    }
-    Ok(())
-}
 
 // The same record, or the same error.
 fn copy_of<'a>(alloc: Global, answer: &ParseResult<Record<'a>>) -> ParseResult<Record<'a>> {
@@ -37,43 +30,66 @@ fn copy_of<'a>(alloc: Global, answer: &ParseResult<Record<'a>>) -> ParseResult<R
     }
 }
 
-// The same frames, with a clone of each record.
-fn write_clones(text: &mut String, frames: &[Frame<'_>]) -> Result<(), AllocError> {
-    for (index, (header, answer)) in frames.iter().enumerate() {
-        let frame_line = FrameLine {
-            index,
-            header: *header,
-            answer: copy_of(*text.allocator(), answer),
-        };
-        write_last(text, frame_line)?;
-        text.push_str("; ")?;
+// Writes the line of a frame, and that of a clone of its record, each with a semicolon after it.
+fn write_twice<L: WriteLine>(
+    text: &mut String,
+    again: &mut String,
+    lines: &L,
+    index: usize,
+    frame: &Frame<'_>,
+) -> Result<(), AllocError> {
+    let (header, answer) = frame;
+    write_frame(text, lines, index, header, answer)?;
+    text.push_str("; ")?;
+    let copy = copy_of(*again.allocator(), answer);
+    write_last_frame(again, lines, index, header, copy)?;
+    again.push_str("; ")
+}
+
+// Writes the frames of a run, and the same with clones of their records.
+fn write_frames<L: WriteLine>(
+    text: &mut String,
+    again: &mut String,
+    lines: &L,
+    frames: &[Frame<'_>],
+) -> Result<(), AllocError> {
+    for (index, frame) in frames.iter().enumerate() {
+        write_twice(text, again, lines, index, frame)?;
     }
     Ok(())
 }
 
-// Each frame of a run; what clones of its records give, if that differs; and how the run ended.
-impl WriteText for Run<'_> {
-    fn write_text(&self, text: &mut String) -> Result<(), AllocError> {
-        let start = text.len();
-        write_frames(text, &self.frames)?;
-        write_other_clones(text, start, &self.frames)?;
-        write_end(text, &self.end)
-    }
-}
-
 // Writes what clones of the records give, if it is not the text from `start` on.
-fn write_other_clones(
-    text: &mut String,
-    start: usize,
-    frames: &[Frame<'_>],
-) -> Result<(), AllocError> {
-    let mut again = String::new(*text.allocator());
-    write_clones(&mut again, frames)?;
-    if text.as_str().get(start..) == Some(again.as_str()) {
+fn write_other(text: &mut String, start: usize, again: &str) -> Result<(), AllocError> {
+    if text.as_str().get(start..) == Some(again) {
         Ok(())
     } else {
         write!(text, "and not {again}")
     }
+}
+
+// Writes each frame of a run; what clones of its records give, if that differs; and how the run ended.
+fn write_frames_and_end<L: WriteLine>(
+    text: &mut String,
+    lines: &L,
+    run: &Run<'_>,
+) -> Result<(), AllocError> {
+    let start = text.len();
+    let mut again = String::new(*text.allocator());
+    write_frames(text, &mut again, lines, &run.frames)?;
+    write_other(text, start, again.as_str())?;
+    write_end(text, &run.end)
+}
+
+// Writes a run, and drops it.
+fn write_last_run<L: WriteLine>(
+    text: &mut String,
+    lines: &L,
+    run: Run<'_>,
+) -> Result<(), AllocError> {
+    let written = write_frames_and_end(text, lines, &run);
+    drop(run);
+    written
 }
 
 fn write_end(text: &mut String, end: &RunEnd) -> Result<(), AllocError> {
@@ -88,28 +104,15 @@ fn write_end(text: &mut String, end: &RunEnd) -> Result<(), AllocError> {
     }
 }
 
-/// The runs of one parser with these limits, in turn.
-pub fn text_of_runs<'p, B: ParseBuf<'p> + Drop, E: Endian>(
-    alloc: Global,
-    buf: B,
-    endian: E,
-    limits: &[usize],
-) -> Result<String, AllocError> {
-    text_of_runs_under(alloc, buf, endian, &perf_event_attr::default(), limits)
-}
+// ---- runs of a parser
 
-/// The same under an attribute.
-pub fn text_of_runs_under<'p, B: ParseBuf<'p> + Drop, E: Endian>(
-    alloc: Global,
-    buf: B,
-    endian: E,
-    attr: &perf_event_attr,
-    limits: &[usize],
-) -> Result<String, AllocError> {
-    let mut parser = parser_of(alloc, buf, endian, attr);
-    let mut text = String::new(alloc);
-    write_runs(&mut text, &mut parser, limits)?;
-    Ok(text)
+// What makes a run.
+#[derive(Copy, Clone)]
+enum Way {
+    // The run that lists records.
+    Records,
+    // The run that hands out frames.
+    Frames,
 }
 
 // Appends what separates the next run from those before.
@@ -121,121 +124,95 @@ fn write_separator(text: &mut String) -> Result<(), AllocError> {
     }
 }
 
-// Appends the runs of a parser that list records, with these limits, in turn.
-fn write_runs<'p, B: ParseBuf<'p>, E: Endian>(
+fn write_run<'p, B: ParseBuf<'p>, E: Endian, L: WriteLine>(
     text: &mut String,
+    lines: &L,
     parser: &mut Parser<B, E>,
-    limits: &[usize],
-) -> Result<(), AllocError> {
-    for limit in limits {
-        write_separator(text)?;
-        write_last(text, read_records(parser, *limit))?;
-    }
-    Ok(())
-}
-
-// Appends the runs of a parser that hand out frames.
-fn write_frame_runs<'p, B: ParseBuf<'p>, E: Endian>(
-    text: &mut String,
-    parser: &mut Parser<B, E>,
-    limits: &[usize],
-) -> Result<(), AllocError> {
-    let alloc = *text.allocator();
-    for limit in limits {
-        write_separator(text)?;
-        write_last(text, run_by_frames(alloc, parser, *limit))?;
-    }
-    Ok(())
-}
-
-// What makes a run.
-#[derive(Copy, Clone)]
-enum Way {
-    // The run that lists records.
-    Records,
-    // The run that hands out frames.
-    Frames,
-}
-
-// Runs of a kind with these limits.
-#[derive(Drop)]
-struct Runs<'a, E> {
-    endian: E,
-    attr: &'a perf_event_attr,
+    limit: usize,
     way: Way,
-    limits: &'a [usize],
-}
-
-impl<E: Endian + Copy> Runs<'_, E> {
-    fn text_of<'p, B: ParseBuf<'p> + Drop>(
-        &self,
-        alloc: Global,
-        buf: B,
-    ) -> Result<String, AllocError> {
-        let mut parser = parser_of(alloc, buf, self.endian, self.attr);
-        let mut text = String::new(alloc);
-        match self.way {
-            Way::Records => write_runs(&mut text, &mut parser, self.limits)?,
-            Way::Frames => write_frame_runs(&mut text, &mut parser, self.limits)?,
-        }
-        Ok(text)
-    }
-}
-
-impl<E: Endian + Copy> Question for Runs<'_, E> {
-    fn text_over(&self, alloc: Global, bytes: &[u8], buffer: Buffer) -> Result<String, AllocError> {
-        over_buffer!(self, alloc, bytes, buffer)
-    }
-}
-
-// The attribute at the start, and the runs after it with these limits.
-#[derive(Copy, Clone)]
-struct AfterAttribute<'a>(&'a [usize]);
-
-impl AfterAttribute<'_> {
-    fn text_of<'p, B: ParseBuf<'p> + Drop>(
-        &self,
-        alloc: Global,
-        buf: B,
-    ) -> Result<String, AllocError> {
-        let mut parser = Parser::new(alloc, buf, ParseConfig::<Little>::default());
-        match next_attribute(&mut parser) {
-            Ok(attr) => text_under_own(alloc, parser, attr, self.0),
-            Err(error) => format!(in alloc; "{error}"),
+) -> Result<(), AllocError> {
+    match way {
+        Way::Records => write_last_run(text, lines, read_records(parser, limit)),
+        Way::Frames => {
+            let run = run_by_frames(*text.allocator(), parser, limit);
+            write_last_run(text, lines, run)
         }
     }
 }
 
-impl Question for AfterAttribute<'_> {
-    fn text_over(&self, alloc: Global, bytes: &[u8], buffer: Buffer) -> Result<String, AllocError> {
-        over_buffer!(self, alloc, bytes, buffer)
-    }
-}
-
-// An attribute's size, its configuration and the runs after it.
-fn text_under_own<'p, B: ParseBuf<'p> + Drop, E: Endian + Copy>(
-    alloc: Global,
-    parser: Parser<B, E>,
-    attr: perf_event_attr,
+// Appends the runs of a parser with these limits, in turn.
+fn write_runs<'p, B: ParseBuf<'p>, E: Endian, L: WriteLine>(
+    text: &mut String,
+    lines: &L,
+    parser: &mut Parser<B, E>,
     limits: &[usize],
+    way: Way,
+) -> Result<(), AllocError> {
+    for limit in limits {
+        write_separator(text)?;
+        write_run(text, lines, parser, *limit, way)?;
+    }
+    Ok(())
+}
+
+/// Appends the runs of a parser that list records, with these limits, in turn.
+pub fn write_lists<'p, B: ParseBuf<'p>, E: Endian, L: WriteLine>(
+    text: &mut String,
+    lines: &L,
+    parser: &mut Parser<B, E>,
+    limits: &[usize],
+) -> Result<(), AllocError> {
+    write_runs(text, lines, parser, limits, Way::Records)
+}
+
+fn text_of_runs_by<'p, B: ParseBuf<'p> + Drop, E: Endian, L: WriteLine>(
+    alloc: Global,
+    lines: &L,
+    buf: B,
+    endian: E,
+    attr: &perf_event_attr,
+    limits: &[usize],
+    way: Way,
 ) -> Result<String, AllocError> {
-    let mut text = format!(in alloc; "{} ", attr.size)?;
-    let config = ParseConfig::<Native>::from(attr).with_endian(*parser.endian());
-    write_config(&mut text, &config)?;
-    let mut parser = parser.reconfigure(config);
-    write_runs(&mut text, &mut parser, limits)?;
+    let mut parser = parser_of(alloc, buf, endian, attr);
+    let mut text = String::new(alloc);
+    let written = write_runs(&mut text, lines, &mut parser, limits, way);
+    drop(parser);
+    written?;
     Ok(text)
 }
 
-/// The attribute at the start of these bytes and the runs after it, over a slice, buffered readers
-/// and pieces.
-pub fn text_after_attribute(
+/// The runs of one parser under an attribute with these limits, in turn.
+pub fn text_of_runs_under<'p, B: ParseBuf<'p> + Drop, E: Endian, L: WriteLine>(
     alloc: Global,
-    bytes: &[u8],
+    lines: &L,
+    buf: B,
+    endian: E,
+    attr: &perf_event_attr,
     limits: &[usize],
 ) -> Result<String, AllocError> {
-    text_everywhere(alloc, bytes, &AfterAttribute(limits))
+    text_of_runs_by(alloc, lines, buf, endian, attr, limits, Way::Records)
 }
+
+/// The same under the default attribute.
+pub fn text_of_runs<'p, B: ParseBuf<'p> + Drop, E: Endian, L: WriteLine>(
+    alloc: Global,
+    lines: &L,
+    buf: B,
+    endian: E,
+    limits: &[usize],
+) -> Result<String, AllocError> {
+    text_of_runs_under(
+        alloc,
+        lines,
+        buf,
+        endian,
+        &perf_event_attr::default(),
+        limits,
+    )
+}
+
+// ---- runs that hand out frames, in the form of those that list records
 
 // Lists the frames of a run, each with its record.
 #[derive(Drop)]
@@ -257,14 +234,21 @@ impl<'p> FrameLister<'p> {
         config: &ParseConfig<E>,
         frame: Result<WholeFrame<'_, 'p>, BadFrame>,
     ) -> bool {
-        let pair = match frame {
-            Ok(frame) => (frame.header(), frame.record(self.alloc, config)),
-            Err(bad) => (bad.header(), Err(bad.error())),
-        };
-        let pushed = self.frames.push(pair);
+        let pushed = self.frames.push(listed(self.alloc, config, frame));
         let is_listed = pushed.is_ok();
         drop(pushed);
         is_listed
+    }
+}
+
+fn listed<'p, E: Endian>(
+    alloc: Global,
+    config: &ParseConfig<E>,
+    frame: Result<WholeFrame<'_, 'p>, BadFrame>,
+) -> Frame<'p> {
+    match frame {
+        Ok(frame) => (frame.header(), frame.record(alloc, config)),
+        Err(bad) => (bad.header(), Err(bad.error())),
     }
 }
 
@@ -280,32 +264,39 @@ impl<'p, E: Endian> FrameHandler<'p, E> for FrameLister<'p> {
     }
 }
 
-// A run that hands out frames, in the form of one that lists records.
+// Lists the frames that a run hands out, and returns how it ended.
+fn end_by_frames<'p, B: ParseBuf<'p>, E: Endian>(
+    parser: &mut Parser<B, E>,
+    limit: usize,
+    lister: &mut FrameLister<'p>,
+) -> RunEnd {
+    let FrameRun { count, end } = each_frame(parser, limit, lister);
+    match end {
+        Some(end) if count == lister.frames.len() => end,
+        _ => RunEnd::Fault(ParseError::custom(ErrorKind::External, "not as many frames")),
+    }
+}
+
 fn run_by_frames<'p, B: ParseBuf<'p>, E: Endian>(
     alloc: Global,
     parser: &mut Parser<B, E>,
     limit: usize,
 ) -> Run<'p> {
     let mut lister = FrameLister::new(alloc);
-    let FrameRun { count, end } = each_frame(parser, limit, &mut lister);
-    let end = match end {
-        Some(end) if count == lister.frames.len() => end,
-        _ => RunEnd::Fault(ParseError::custom(ErrorKind::External, "not as many frames")),
-    };
+    let end = end_by_frames(parser, limit, &mut lister);
     Run {
         frames: lister.frames,
         end,
     }
 }
 
-// All frames of a slice, in the form of the run that lists their records.
-fn run_of_slice<'p, E: Endian>(
-    alloc: Global,
+// Lists the frames of a slice, and returns whether none of its bytes are left.
+fn list_slice<'p, E: Endian>(
+    lister: &mut FrameLister<'p>,
     bytes: &'p [u8],
     order: E,
     config: &ParseConfig<E>,
-) -> Run<'p> {
-    let mut lister = FrameLister::new(alloc);
+) -> bool {
     let mut iterator = frames(bytes, order);
     for _ in 0..=bytes.len() {
         match iterator.next() {
@@ -315,91 +306,170 @@ fn run_of_slice<'p, E: Endian>(
             None => break,
         }
     }
-    let end = if iterator.left().is_empty() {
-        RunEnd::Done
-    } else {
-        RunEnd::CutHeader
-    };
+    iterator.left().is_empty()
+}
+
+fn run_of_slice<'p, E: Endian>(
+    alloc: Global,
+    bytes: &'p [u8],
+    order: E,
+    config: &ParseConfig<E>,
+) -> Run<'p> {
+    let mut lister = FrameLister::new(alloc);
+    let is_done = list_slice(&mut lister, bytes, order, config);
     Run {
         frames: lister.frames,
-        end,
+        end: if is_done {
+            RunEnd::Done
+        } else {
+            RunEnd::CutHeader
+        },
     }
 }
 
-// The frames of these bytes, in the form of the run over all of them.
-fn text_of_slice<E: Endian + Copy>(
-    alloc: Global,
-    bytes: &[u8],
+// ---- runs over many buffers
+
+// Runs of a kind with these limits.
+#[derive(Drop)]
+struct Runs<'a, E, L> {
+    lines: &'a L,
     endian: E,
-    attr: &perf_event_attr,
-) -> Result<String, AllocError> {
-    let config = ParseConfig::<Native>::from(*attr).with_endian(endian);
-    let mut text = String::new(alloc);
-    write_last(&mut text, run_of_slice(alloc, bytes, endian, &config))?;
-    Ok(text)
+    attr: &'a perf_event_attr,
+    way: Way,
+    limits: &'a [usize],
 }
 
-/// The runs over these bytes under an attribute, over a slice, buffered readers and pieces; and if
-/// runs that hand out frames, or the frames of the slice, differ, those too.
-pub fn runs_everywhere<E: Endian + Copy>(
-    alloc: Global,
+impl<E: Endian + Copy, L: WriteLine> Runs<'_, E, L> {
+    fn text_of<'p, B: ParseBuf<'p> + Drop>(
+        &self,
+        alloc: Global,
+        buf: B,
+    ) -> Result<String, AllocError> {
+        text_of_runs_by(
+            alloc,
+            self.lines,
+            buf,
+            self.endian,
+            self.attr,
+            self.limits,
+            self.way,
+        )
+    }
+
+    // The text of a run over all frames of these bytes, from the frames of the slice.
+    fn text_of_slice(&self, alloc: Global, bytes: &[u8]) -> Result<String, AllocError> {
+        let config = ParseConfig::<Native>::from(*self.attr).with_endian(self.endian);
+        let mut text = String::new(alloc);
+        let run = run_of_slice(alloc, bytes, self.endian, &config);
+        write_last_run(&mut text, self.lines, run)?;
+        Ok(text)
+    }
+}
+
+impl<E: Endian + Copy, L: WriteLine> Question for Runs<'_, E, L> {
+    fn text_over(&self, alloc: Global, bytes: &[u8], buffer: Buffer) -> Result<String, AllocError> {
+        over_buffer!(self, alloc, bytes, buffer)
+    }
+}
+
+// Appends the texts that differ from the first: of runs that list records over these buffers, and of
+// runs that hand out frames over a slice and these buffers.
+fn add_runs<E: Endian + Copy, L: WriteLine>(
+    others: &mut String,
     bytes: &[u8],
-    endian: E,
-    attr: &perf_event_attr,
-    limits: &[usize],
-) -> Result<String, AllocError> {
-    let mut runs = Runs {
-        endian,
-        attr,
-        way: Way::Records,
-        limits,
+    runs: &Runs<'_, E, L>,
+    buffers: &[Buffer],
+    first: &str,
+) -> Result<(), AllocError> {
+    let by_frames = Runs {
+        lines: runs.lines,
+        endian: runs.endian,
+        attr: runs.attr,
+        way: Way::Frames,
+        limits: runs.limits,
     };
-    let mut text = text_everywhere(alloc, bytes, &runs)?;
-    runs.way = Way::Frames;
-    let by_frames = text_everywhere(alloc, bytes, &runs)?;
-    if by_frames.as_str() != text.as_str() {
-        write!(text, " but by frames {by_frames}")?;
-    }
-    let whole = text_of_runs_under(alloc, bytes, endian, attr, &[bytes.len() + 1])?;
-    let of_slice = text_of_slice(alloc, bytes, endian, attr)?;
-    add_other(&mut text, of_slice.as_str(), whole.as_str())?;
-    Ok(text)
+    add_over(others, bytes, runs, buffers, first)?;
+    add_over(others, bytes, &by_frames, &[Buffer::Slice], first)?;
+    add_over(others, bytes, &by_frames, buffers, first)
 }
 
-/// Nothing, if a run over these bytes under an attribute has the same text as a run over another
-/// buffer, as runs over either that hand out frames, and as the frames of the slice. Otherwise the
-/// text of the run, and after it the texts that differ.
-pub fn differences<E: Endian + Copy>(
-    alloc: Global,
+// Appends the text of the frames of the slice, if it is not that of one run over all of them.
+fn add_slice<E: Endian + Copy, L: WriteLine>(
+    others: &mut String,
+    lines: &L,
     bytes: &[u8],
     endian: E,
     attr: &perf_event_attr,
-    other: Buffer,
-) -> Result<String, AllocError> {
-    let mut runs = Runs {
+) -> Result<(), AllocError> {
+    let runs = Runs {
+        lines,
         endian,
         attr,
         way: Way::Records,
         limits: &[usize::MAX],
     };
-    let mut text = runs.text_over(alloc, bytes, Buffer::Slice)?;
-    let mut others = String::new(alloc);
-    for &(way, buffer) in &[
-        (Way::Records, other),
-        (Way::Frames, Buffer::Slice),
-        (Way::Frames, other),
-    ] {
-        runs.way = way;
-        let actual = runs.text_over(alloc, bytes, buffer)?;
-        add_other(&mut others, actual.as_str(), text.as_str())?;
-    }
-    let of_slice = text_of_slice(alloc, bytes, endian, attr)?;
-    add_other(&mut others, of_slice.as_str(), text.as_str())?;
-    if others.is_empty() {
-        return Ok(others);
-    }
-    text.push_str(others.as_str())?;
+    let alloc = *others.allocator();
+    let whole = runs.text_of(alloc, bytes)?;
+    let of_slice = runs.text_of_slice(alloc, bytes)?;
+    add_other(others, of_slice.as_str(), whole.as_str())
+}
+
+/// The runs over these bytes under an attribute, over a slice, buffered readers and pieces; and if
+/// runs that hand out frames, or the frames of the slice, differ, those too.
+pub fn runs_everywhere<E: Endian + Copy, L: WriteLine>(
+    alloc: Global,
+    lines: &L,
+    bytes: &[u8],
+    endian: E,
+    attr: &perf_event_attr,
+    limits: &[usize],
+) -> Result<String, AllocError> {
+    let runs = Runs {
+        lines,
+        endian,
+        attr,
+        way: Way::Records,
+        limits,
+    };
+    let first = runs.text_of(alloc, bytes)?;
+    let mut text = String::from_str(alloc, first.as_str())?;
+    add_runs(&mut text, bytes, &runs, &OTHERS, first.as_str())?;
+    add_slice(&mut text, lines, bytes, endian, attr)?;
     Ok(text)
+}
+
+/// Nothing, if a run over these bytes under an attribute has the same text as a run over another
+/// buffer, as runs over either that hand out frames, and as the frames of the slice. Otherwise the
+/// texts that differ.
+pub fn differences<E: Endian + Copy, L: WriteLine>(
+    alloc: Global,
+    lines: &L,
+    bytes: &[u8],
+    endian: E,
+    attr: &perf_event_attr,
+    other: Buffer,
+) -> Result<String, AllocError> {
+    let runs = Runs {
+        lines,
+        endian,
+        attr,
+        way: Way::Records,
+        limits: &[usize::MAX],
+    };
+    let first = runs.text_of(alloc, bytes)?;
+    let mut others = String::new(alloc);
+    add_runs(&mut others, bytes, &runs, &[other], first.as_str())?;
+    add_slice(&mut others, lines, bytes, endian, attr)?;
+    Ok(others)
+}
+
+// ---- records one by one
+
+/// The next record.
+pub fn next_record<'p, B: ParseBuf<'p>, E: Endian>(
+    parser: &mut Parser<B, E>,
+) -> ParseResult<Record<'p>> {
+    Record::parse(parser)
 }
 
 /// Writes the `{:?}` of a record, or the kind of its error, and returns whether it is a record.
@@ -417,15 +487,48 @@ pub fn write_debug_record(
     Ok(is_record)
 }
 
+fn write_records<'p, B: ParseBuf<'p>>(
+    text: &mut String,
+    parser: &mut Parser<B, Little>,
+    most: usize,
+) -> Result<(), AllocError> {
+    for _ in 0..most {
+        if !write_debug_record(text, next_record(parser))? {
+            break;
+        }
+    }
+    Ok(())
+}
+
 /// The `{:?}` of the records of a slice, one after another, and why there is no further one. Bytes
 /// that are those of the slice are `Borrowed`.
 pub fn text_of_records(alloc: Global, bytes: &[u8]) -> Result<String, AllocError> {
     let mut parser = Parser::new(alloc, bytes, ParseConfig::<Little>::default());
     let mut text = String::new(alloc);
-    for _ in 0..=bytes.len() {
-        if !write_debug_record(&mut text, next_record(&mut parser))? {
-            break;
-        }
-    }
+    let written = write_records(&mut text, &mut parser, bytes.len() + 1);
+    drop(parser);
+    written?;
     Ok(text)
+}
+
+// ---- what refuses
+
+/// The fault that ends a run of at most so many frames, or none.
+pub fn fault_of_run<'p, B: ParseBuf<'p>, E: Endian>(
+    parser: &mut Parser<B, E>,
+    limit: usize,
+) -> Option<ParseError> {
+    let Run { frames, end } = read_records(parser, limit);
+    drop(frames);
+    match end {
+        RunEnd::Fault(error) => Some(error),
+        _ => None,
+    }
+}
+
+/// Why there is no next record, or nothing if there is one.
+pub fn error_of_record<'p, B: ParseBuf<'p>, E: Endian>(
+    parser: &mut Parser<B, E>,
+) -> Option<ParseError> {
+    next_record(parser).err()
 }

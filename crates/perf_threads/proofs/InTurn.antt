@@ -6,7 +6,7 @@ use Rattle.std.specs.List.{cons_option, filter}
 use Rattle.std.specs.List.Sorted.{IsStrictlySortedBy}
 use Rattle.std.specs.Map.{keys_of, lookup}
 use Rattle.std.proofs.lemmas.List.Sums.{count_by-le-length}
-use Rattle.perf_file.specs.Opened.{File}
+use Rattle.perf_sections.specs.Opened.{File}
 use Rattle.perf_file.specs.declared.entries.Entry.{Entry}
 use Rattle.perf_history.specs.declared.changes.Change.{Change}
 use Rattle.perf_history.specs.declared.histories.History.{History}

@@ -2,7 +2,7 @@
 use Rattle.std.specs.Prelude.{ℕ, List, [], ◌∷◌, Option, option_map, option_and_then}
 use Rattle.std.specs.List.{cons_option}
 use Rattle.perf_base.specs.Dynamic.{order_of}
-use Rattle.perf_file.specs.Opened.{File}
+use Rattle.perf_sections.specs.Opened.{File}
 use Rattle.perf_file.specs.declared.entries.Entry.{Entry}
 use Rattle.perf_history.specs.Histories.{name_of}
 use Rattle.perf_history.specs.declared.changes.Change.{Change}

@@ -1,9 +1,6 @@
 pub mod Alike
 pub mod CGroup
 pub mod Comm
-pub mod EntryCalls
-pub mod GroupEntry
-pub mod GroupIter
 pub mod KSymbol
 pub mod Mmap
 pub mod Mmap2
@@ -11,9 +8,6 @@ pub mod MmapDetail
 pub mod Namespaces
 pub mod Numbers
 pub mod Read
-pub mod ReadFormat
-pub mod ReadGroup
-pub mod ReadValue
 pub mod SwitchCpuWide
 pub mod Text
 pub mod TextPoke

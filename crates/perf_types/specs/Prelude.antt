@@ -12,6 +12,3 @@ pub use Rattle.perf_base.specs.Errors.{kind_of}
 pub use Rattle.perf_reader.specs.Prelude.{Call, Reads, ReadsPlain, ReadsInPlace, ReadsOne}
 pub use Rattle.perf_reader.specs.Prelude.{NeedsNoMemory, kinds, words}
 pub use Rattle.perf_types.specs.Text.{text_of}
-pub use Rattle.perf_types.specs.ReadValue.{single_read}
-pub use Rattle.perf_types.specs.GroupEntry.{entry_with_id}
-pub use Rattle.perf_types.specs.GroupIter.{entries_left}

@@ -3,7 +3,7 @@ use Rattle.std.specs.Prelude.{ℕ}
 use Rattle.perf_base.specs.Configuration.{Configuration}
 use Rattle.perf_base.specs.Layout.{Parts, done, ◌>>=◌}
 use Rattle.perf_base.specs.FieldWords.{u32}
-use Rattle.perf_types.specs.ReadValue.{SingleRead, single_read, read_value}
+use Rattle.perf_counters.specs.ReadValue.{SingleRead, single_read, read_value}
 use Rattle.perf_types.specs.declared.read.Read.{Read}
 
 -- a READ record as plain numbers

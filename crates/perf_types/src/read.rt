@@ -5,9 +5,9 @@ ghost use Rattle.perf_reader.specs.Prelude.{ReadsPlain};
 ghost use Rattle.perf_types.specs.Read.{read, task_read};
 
 use crate::pair::read_pair;
-use crate::read_value::ReadValue;
 use perf_base::{Endian, ReadResult};
 use perf_buffers::input::Input;
+use perf_counters::read_value::ReadValue;
 use perf_reader::read::{HasTransition, ReadFrom};
 use perf_reader::reader::Reader;
 

@@ -16,13 +16,20 @@ const CONTEXT_MAX: u64 = u64::MAX - 4094;
 // The addresses of a call chain as one text, the outermost call first.
 fn fold_chain(alloc: Global, chain: &[u64]) -> Result<String, AllocError> {
     let mut stack = String::new(alloc);
-    for address in chain.iter().rev().filter(|address| **address < CONTEXT_MAX) {
-        if !stack.is_empty() {
-            stack.push(';')?;
+    for address in chain.iter().rev() {
+        if *address < CONTEXT_MAX {
+            push_address(&mut stack, *address)?;
         }
-        write!(stack, "{address:#x}")?;
     }
     Ok(stack)
+}
+
+// Appends an address, after a semicolon if it is not the first.
+fn push_address(stack: &mut String, address: u64) -> Result<(), AllocError> {
+    if !stack.is_empty() {
+        stack.push(';')?;
+    }
+    write!(stack, "{address:#x}")
 }
 
 // The call chain of a sample as one text, or `None` if it has none.

@@ -28,49 +28,51 @@ use crate::sample_counter::count_samples;
 use crate::sample_times::sample_times;
 use crate::stamped::Stamped;
 use crate::with_attribute::open_recording;
-use anyhow::Result;
+use anyhow::{Result, bail};
 use perf_event_data::endian::{Endian, Little};
 use perf_event_data::parse::{ParseBuf, ParseConfig, ParseResult, Parser};
 use perf_event_data::sys::perf_event_header;
 use perf_event_data::{
-    Comm, Exit, Frame, Mmap2, Record, RecordMetadata, RecordVisitor, frames, read_records,
+    Exit, Frame, Mmap2, Record, RecordMetadata, RecordVisitor, frames, read_records,
 };
 use std::alloc::Global;
+use std::collections::BTreeMap;
 use std::io::Read;
 
 // Prints the times of samples.
-fn print_times(
-    rt: &(impl AllocGlobal + Print),
-    config: &ParseConfig<Little>,
-    records: &[u8],
-) -> Result<()> {
-    for time in sample_times(rt.alloc(), config, records)?.iter() {
+fn print_times(rt: &HostRuntime, config: &ParseConfig<Little>, records: &[u8]) -> Result<()> {
+    let times = sample_times(rt.alloc(), config, records)?;
+    for time in times.iter() {
         println!(rt; "sample at {time}")?;
     }
     Ok(())
 }
 
 // Prints how many frames and how many samples a buffered reader gives.
-fn print_counts(rt: &(impl AllocGlobal + Print), recording: &[u8]) -> Result<()> {
+fn print_counts(rt: &HostRuntime, recording: &[u8]) -> Result<()> {
     let (frames, samples) = count_samples(rt.alloc(), recording)?;
     println!(rt; "{frames} frames, {samples} samples")?;
     Ok(())
 }
 
 // Prints each call chain, and the number of its samples.
-fn print_stacks(
-    rt: &(impl AllocGlobal + Print),
-    config: &ParseConfig<Little>,
-    records: &[u8],
-) -> Result<()> {
-    for (stack, count) in call_stacks(rt.alloc(), config, records)?.iter() {
+fn print_stacks(rt: &HostRuntime, config: &ParseConfig<Little>, records: &[u8]) -> Result<()> {
+    let stacks = call_stacks(rt.alloc(), config, records)?;
+    let printed = print_each_stack(rt, &stacks);
+    drop(stacks);
+    printed
+}
+
+// Prints call chains, and the number of samples of each.
+fn print_each_stack(rt: &HostRuntime, stacks: &BTreeMap<String, u64>) -> Result<()> {
+    for (stack, count) in stacks.iter() {
         println!(rt; "{count} {stack}")?;
     }
     Ok(())
 }
 
 // Prints the file of a mapping.
-fn print_mapping(rt: &impl Print, mapping: &Mmap2<'_>) -> Result<()> {
+fn print_mapping(rt: &HostRuntime, mapping: &Mmap2<'_>) -> Result<()> {
     let file = mapping.filename_os().unwrap_or("?");
     match mapping.build_id() {
         Some(id) => println!(rt; "{} maps {file} of build id {id:?}", mapping.pid)?,
@@ -79,49 +81,68 @@ fn print_mapping(rt: &impl Print, mapping: &Mmap2<'_>) -> Result<()> {
     Ok(())
 }
 
-// Prints the mappings that are left in a buffer.
-fn print_mappings<'p, B: ParseBuf<'p>>(
-    rt: &impl Print,
-    parser: &mut Parser<B, Little>,
+// Prints the record after a header, if it is a mapping.
+fn print_mapping_after(
+    rt: &HostRuntime,
+    parser: &mut Parser<&[u8], Little>,
+    header: perf_event_header,
 ) -> Result<()> {
+    let Some(mapping) = mapping_after(parser, header)? else {
+        return Ok(());
+    };
+    let printed = print_mapping(rt, &mapping);
+    drop(mapping);
+    printed
+}
+
+// Prints the mappings that are left in a buffer.
+fn print_mappings(rt: &HostRuntime, parser: &mut Parser<&[u8], Little>) -> Result<()> {
     for _ in 0..u64::MAX {
         let Some(header) = next_header(parser)? else {
             break;
         };
-        if let Some(mapping) = mapping_after(parser, header)? {
-            print_mapping(rt, &mapping)?;
-        }
+        print_mapping_after(rt, parser, header)?;
     }
     Ok(())
 }
 
-// The COMM after a header, with its metadata, or `None` if the record is another.
-fn comm_after<'p, B: ParseBuf<'p>>(
-    alloc: Global,
-    parser: &mut Parser<B, Little>,
-    header: perf_event_header,
-) -> ParseResult<Option<(RecordMetadata, Comm<'p>)>> {
-    let visitor = Stamped(RecordVisitor::new(alloc));
-    let (metadata, record) = parser.parse_record_with_header(visitor, header)?;
-    match record? {
-        Record::Comm(comm) => Ok(Some((metadata, comm))),
-        _ => Ok(None),
+// Prints when a task got its name, if a record with this metadata is a COMM.
+fn print_name(
+    rt: &HostRuntime,
+    metadata: &RecordMetadata,
+    record: &ParseResult<Record<'_>>,
+) -> Result<()> {
+    match record {
+        Ok(Record::Comm(comm)) => {
+            let time = metadata.sample_id().time().unwrap_or(0);
+            println!(rt; "{time} {} is {}", comm.tid, comm.comm_os().unwrap_or("?"))?;
+        }
+        Ok(_) => {}
+        Err(error) => bail!("{error}"),
     }
+    Ok(())
+}
+
+// Prints the record after a header, if it is a COMM.
+fn print_name_after(
+    rt: &HostRuntime,
+    parser: &mut Parser<&[u8], Little>,
+    header: perf_event_header,
+) -> Result<()> {
+    let visitor = Stamped(RecordVisitor::new(rt.alloc()));
+    let (metadata, record) = parser.parse_record_with_header(visitor, header)?;
+    let printed = print_name(rt, &metadata, &record);
+    drop(record);
+    printed
 }
 
 // Prints when tasks got their names, by a visitor.
-fn print_names<'p, B: ParseBuf<'p>>(
-    rt: &(impl AllocGlobal + Print),
-    parser: &mut Parser<B, Little>,
-) -> Result<()> {
+fn print_names(rt: &HostRuntime, parser: &mut Parser<&[u8], Little>) -> Result<()> {
     for _ in 0..u64::MAX {
         let Some(header) = next_header(parser)? else {
             break;
         };
-        if let Some((metadata, comm)) = comm_after(rt.alloc(), parser, header)? {
-            let time = metadata.sample_id().time().unwrap_or(0);
-            println!(rt; "{time} {} is {}", comm.tid, comm.comm_os().unwrap_or("?"))?;
-        }
+        print_name_after(rt, parser, header)?;
     }
     Ok(())
 }
@@ -134,16 +155,15 @@ fn exit_in(
 ) -> ParseResult<Option<Exit>> {
     match frame.record(alloc, config)? {
         Record::Exit(exit) => Ok(Some(exit)),
-        _ => Ok(None),
+        other => {
+            drop(other);
+            Ok(None)
+        }
     }
 }
 
 // Prints when tasks ended, by frames.
-fn print_ends(
-    rt: &(impl AllocGlobal + Print),
-    config: &ParseConfig<Little>,
-    records: &[u8],
-) -> Result<()> {
+fn print_ends(rt: &HostRuntime, config: &ParseConfig<Little>, records: &[u8]) -> Result<()> {
     for frame in frames(records, Little) {
         let Ok(frame) = frame else { continue };
         if let Some(exit) = exit_in(rt.alloc(), config, &frame)? {
@@ -179,24 +199,33 @@ const RING: &[u8] = b"\0\0\x10\0\x09\0\0\0\0\0\0\0\
 const BODY: &[u8] = b"\x09\0\0\0\x01\0\0\0\0\0\0\0end\0";
 
 // Prints a mark.
-fn print_mark(rt: &(impl AllocGlobal + Print), mark: &Mark<'_>) -> Result<()> {
+fn print_mark(rt: &HostRuntime, mark: &Mark<'_>) -> Result<()> {
     let name = String::from_utf8_lossy(rt.alloc(), mark.name.as_slice())?;
     println!(rt; "mark {} of {}: {name}", mark.id, mark.value)?;
     Ok(())
 }
 
-// Prints the marks among some frames.
-fn print_marks<'p, B: ParseBuf<'p>>(
-    rt: &(impl AllocGlobal + Print),
-    parser: &mut Parser<B, Little>,
+// Prints the record after a header, if it is a mark.
+fn print_mark_after(
+    rt: &HostRuntime,
+    parser: &mut Parser<&[u8], Little>,
+    header: perf_event_header,
 ) -> Result<()> {
+    let Some(mark) = mark_after(parser, header)? else {
+        return Ok(());
+    };
+    let printed = print_mark(rt, &mark);
+    drop(mark);
+    printed
+}
+
+// Prints the marks among some frames.
+fn print_marks(rt: &HostRuntime, parser: &mut Parser<&[u8], Little>) -> Result<()> {
     for _ in 0..u64::MAX {
         let Some(header) = next_header(parser)? else {
             break;
         };
-        if let Some(mark) = mark_after(parser, header)? {
-            print_mark(rt, &mark)?;
-        }
+        print_mark_after(rt, parser, header)?;
     }
     Ok(())
 }
@@ -205,29 +234,31 @@ fn print_marks<'p, B: ParseBuf<'p>>(
 const SPANS: &[u8] = b"\x02\0\x64\0\0\0\0\0\0\0\x07\0\0\0\0\0\0\0\x04\0load\x03\0";
 
 // Prints a span.
-fn print_span(rt: &(impl AllocGlobal + Print), span: &Span<'_>) -> Result<()> {
+fn print_span(rt: &HostRuntime, span: &Span<'_>) -> Result<()> {
     let label = String::from_utf8_lossy(rt.alloc(), span.label.as_slice())?;
     println!(rt; "{label} from {} for {}", span.start, span.duration)?;
     Ok(())
 }
 
-// Prints two spans.
-fn print_spans<'p, B: ParseBuf<'p>>(
-    rt: &(impl AllocGlobal + Print),
-    parser: &mut Parser<B, Little>,
-) -> Result<()> {
-    for _ in 0..2 {
-        match parser.parse::<Span>() {
-            Ok(span) => print_span(rt, &span)?,
-            Err(error) => println!(rt; "{error}")?,
-        }
+// Prints the next span, or why it is refused.
+fn print_next_span(rt: &HostRuntime, parser: &mut Parser<&[u8], Little>) -> Result<()> {
+    let answer = parser.parse::<Span>();
+    let printed = print_answer(rt, &answer);
+    drop(answer);
+    printed
+}
+
+// Prints a span, or why it is refused.
+fn print_answer(rt: &HostRuntime, answer: &ParseResult<Span<'_>>) -> Result<()> {
+    match answer {
+        Ok(span) => print_span(rt, span),
+        Err(error) => Ok(println!(rt; "{error}")?),
     }
-    Ok(())
 }
 
 // Prints how many samples each LOST_SAMPLES among some records counts.
 fn print_lost(
-    rt: &impl Print,
+    rt: &HostRuntime,
     frames: &[(perf_event_header, ParseResult<Record<'_>>)],
 ) -> Result<()> {
     for (_, record) in frames {
@@ -240,28 +271,30 @@ fn print_lost(
 
 // Prints how many samples were lost.
 fn print_losses<'p, B: ParseBuf<'p>, E: Endian>(
-    rt: &impl Print,
+    rt: &HostRuntime,
     parser: &mut Parser<B, E>,
 ) -> Result<()> {
     let run = read_records(parser, 10);
-    print_lost(rt, &run.frames)
+    let printed = print_lost(rt, &run.frames);
+    drop(run);
+    printed
 }
 
 // Prints the mappings of a recording.
-fn print_mappings_of(rt: &(impl AllocGlobal + Print), recording: &[u8]) -> Result<()> {
+fn print_mappings_of(rt: &HostRuntime, recording: &[u8]) -> Result<()> {
     let mut parser = open_recording(rt.alloc(), recording)?;
     print_mappings(rt, &mut parser)
 }
 
 // Prints when the tasks of a recording got their names.
-fn print_names_of(rt: &(impl AllocGlobal + Print), recording: &[u8]) -> Result<()> {
+fn print_names_of(rt: &HostRuntime, recording: &[u8]) -> Result<()> {
     let mut parser = open_recording(rt.alloc(), recording)?;
     print_names(rt, &mut parser)
 }
 
 // Prints what a recording contains, of which these are the configuration and the records.
 fn print_contents(
-    rt: &(impl AllocGlobal + Print),
+    rt: &HostRuntime,
     recording: &[u8],
     config: &ParseConfig<Little>,
     records: &[u8],
@@ -275,59 +308,69 @@ fn print_contents(
 }
 
 // Prints what a recording contains.
-fn print_recording(rt: &(impl AllocGlobal + Print), recording: &[u8]) -> Result<()> {
+fn print_recording(rt: &HostRuntime, recording: &[u8]) -> Result<()> {
     let mut parser = open_recording(rt.alloc(), recording)?;
     let records = parser.parse_rest()?;
-    print_contents(rt, recording, parser.config(), records.as_slice())
+    let printed = print_contents(rt, recording, parser.config(), records.as_slice());
+    drop(records);
+    printed
+}
+
+// A parser of bytes in little endian.
+fn parser_of<'p>(alloc: Global, bytes: &'p [u8]) -> Parser<&'p [u8], Little> {
+    Parser::new(alloc, bytes, ParseConfig::default())
 }
 
 // Prints the mapping above.
-fn print_given_mapping(rt: &(impl AllocGlobal + Print)) -> Result<()> {
-    let mut parser = Parser::new(rt.alloc(), MAPPING, ParseConfig::<Little>::default());
+fn print_given_mapping(rt: &HostRuntime) -> Result<()> {
+    let mut parser = parser_of(rt.alloc(), MAPPING);
     print_mappings(rt, &mut parser)
 }
 
 // Prints the marks among the frames above.
-fn print_given_marks(rt: &(impl AllocGlobal + Print)) -> Result<()> {
-    let mut parser = Parser::new(rt.alloc(), MARKS, ParseConfig::<Little>::default());
+fn print_given_marks(rt: &HostRuntime) -> Result<()> {
+    let mut parser = parser_of(rt.alloc(), MARKS);
     print_marks(rt, &mut parser)
 }
 
 // Prints the mark whose body is above.
-fn print_given_body(rt: &(impl AllocGlobal + Print)) -> Result<()> {
+fn print_given_body(rt: &HostRuntime) -> Result<()> {
     let mark = mark_in(rt.alloc(), BODY)?;
-    print_mark(rt, &mark)
+    let printed = print_mark(rt, &mark);
+    drop(mark);
+    printed
 }
 
 // Prints the spans above.
-fn print_given_spans(rt: &(impl AllocGlobal + Print)) -> Result<()> {
-    let mut parser = Parser::new(rt.alloc(), SPANS, ParseConfig::<Little>::default());
-    print_spans(rt, &mut parser)
+fn print_given_spans(rt: &HostRuntime) -> Result<()> {
+    let mut parser = parser_of(rt.alloc(), SPANS);
+    print_next_span(rt, &mut parser)?;
+    print_next_span(rt, &mut parser)
 }
 
 // Prints the loss whose number has its higher half first.
-fn print_swapped_loss(rt: &(impl AllocGlobal + Print)) -> Result<()> {
+fn print_swapped_loss(rt: &HostRuntime) -> Result<()> {
     let by_halves = ParseConfig::<Little>::default().with_endian(HighWordFirst);
     let mut parser = Parser::new(rt.alloc(), SWAPPED, by_halves);
     print_losses(rt, &mut parser)
 }
 
 // Prints the losses in the ring above.
-fn print_ring_losses(rt: &(impl AllocGlobal + Print)) -> Result<()> {
+fn print_ring_losses(rt: &HostRuntime) -> Result<()> {
     let ring = Ring::new(&RING[12..], &RING[..12]);
     let mut parser = Parser::new(rt.alloc(), ring, ParseConfig::<Little>::default());
     print_losses(rt, &mut parser)
 }
 
 // Prints the first of these losses, from a buffer that owns its bytes.
-fn print_received_loss(rt: &(impl AllocGlobal + Print)) -> Result<()> {
+fn print_received_loss(rt: &HostRuntime) -> Result<()> {
     let buffer = Received::new(Vec::from_slice(rt.alloc(), &RING[12..28])?);
     let mut parser = Parser::new(rt.alloc(), buffer, ParseConfig::<Little>::default());
     print_losses(rt, &mut parser)
 }
 
 // Prints what the uses make of the bytes above.
-fn print_given(rt: &(impl AllocGlobal + Print)) -> Result<()> {
+fn print_given(rt: &HostRuntime) -> Result<()> {
     print_given_mapping(rt)?;
     print_given_marks(rt)?;
     print_given_body(rt)?;

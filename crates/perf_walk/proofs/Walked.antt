@@ -8,7 +8,7 @@ use Rattle.perf_base.specs.Header.{header_of}
 use Rattle.perf_base.specs.Order.{Order}
 use Rattle.perf_base.specs.declared.sys.perf_event_header.{perf_event_header}
 use Rattle.perf_file.specs.Entries.{config_of}
-use Rattle.perf_file.specs.Opened.{File}
+use Rattle.perf_sections.specs.Opened.{File}
 use Rattle.perf_file.specs.Pieces.{left_at}
 use Rattle.perf_file.specs.declared.entries.Entry.{Entry}
 use Rattle.perf_flat.specs.Flat.{IsFlat, first_frame}

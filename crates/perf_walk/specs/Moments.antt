@@ -5,7 +5,7 @@ use Rattle.perf_base.specs.Configuration.{Configuration}
 use Rattle.perf_base.specs.Dynamic.{order_of}
 use Rattle.perf_flat.specs.Flat.{first_frame}
 use Rattle.perf_file.specs.Entries.{config_of}
-use Rattle.perf_file.specs.Opened.{File}
+use Rattle.perf_sections.specs.Opened.{File}
 use Rattle.perf_file.specs.Pieces.{left_at}
 use Rattle.perf_file.specs.declared.entries.Entry.{Entry}
 use Rattle.perf_file.specs.declared.owning.Owner.{Owner}

@@ -6,7 +6,7 @@ use Rattle.perf_base.specs.Configuration.{Configuration}
 use Rattle.perf_base.specs.Dynamic.{order_of}
 use Rattle.perf_flat.specs.Flat.{IsFlat}
 use Rattle.perf_flat.specs.declared.frame.FlatFrame.{FlatFrame}
-use Rattle.perf_file.specs.Opened.{File}
+use Rattle.perf_sections.specs.Opened.{File}
 use Rattle.perf_file.specs.declared.entries.Entry.{Entry}
 use Rattle.perf_history.specs.declared.changes.Change.{Change}
 use Rattle.perf_walk.specs.Moments.{Moment, frame_at, moment_at, known_after}

@@ -83,7 +83,7 @@ fn apply<'p>(history: &mut History<'p>, change: Option<Change<'p>>) -> Result<()
 }
 
 impl<'a, 'p> Walk<'a, 'p> {
-    ghost use Rattle.perf_file.specs.Opened.{File};
+    ghost use Rattle.perf_sections.specs.Opened.{File};
     ghost use Rattle.perf_file.specs.Views.{view};
     ghost use Rattle.perf_history.specs.Histories.{name_of, place_of};
     ghost use Rattle.perf_history.specs.declared.changes.Change.{Change};

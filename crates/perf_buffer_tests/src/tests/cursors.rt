@@ -41,17 +41,26 @@ fn kind_of<T: Drop>(answer: ParseResult<T>) -> Option<ErrorKind> {
     }
 }
 
-// Writes how many bytes a buffer reports, which it shows first, why there is no cursor over three
-// of them, whether it shows any after that, and what a cursor over none gives.
+// Writes how many bytes a buffer reports, and which it shows first.
+fn write_first<'p, B: ParseBuf<'p>>(text: &mut String, buf: &mut B) -> ParseResult<()> {
+    let left = buf.remaining_hint();
+    let first = buf.chunk()?.as_bytes().first().copied();
+    Ok(write!(text, "{left:?} {first:?} ")?)
+}
+
+// Why there is no cursor over three bytes of a buffer, and whether it shows any after that.
+fn after_refusal<'p, B: ParseBuf<'p>>(alloc: Global, buf: &mut B) -> (Option<ErrorKind>, bool) {
+    let kind = kind_of(ParseBufCursor::new(alloc, buf, 3));
+    (kind, buf.chunk().is_ok())
+}
+
+// Writes that, and what a cursor over no bytes gives.
 fn write_after<'p, B: ParseBuf<'p>>(
     text: &mut String,
     alloc: Global,
     buf: &mut B,
 ) -> ParseResult<()> {
-    let left = buf.remaining_hint();
-    write!(text, "{left:?} {:?} ", buf.chunk()?.as_bytes().first())?;
-    let kind = kind_of(ParseBufCursor::new(alloc, buf, 3));
-    let shows = buf.chunk().is_ok();
+    let (kind, shows) = after_refusal(alloc, buf);
     let empty = ParseBufCursor::new(alloc, buf, 0)?;
     Ok(write!(text, "{kind:?} {shows} {:?}", empty.as_slice())?)
 }
@@ -70,6 +79,7 @@ fn text_of_cursor<'p, B: ParseBuf<'p> + Drop>(alloc: Global, buf: B) -> ParseRes
     let of_cursor = write_cursor(&mut text, &mut cursor);
     drop(cursor);
     of_cursor?;
+    write_first(&mut text, &mut buf)?;
     write_after(&mut text, alloc, &mut buf)?;
     Ok(text)
 }

@@ -1,6 +1,7 @@
 //! The features of a file: what is read of them, and what a bad one refuses.
 
-use crate::tests::files::{BIG, BIG_WORDS, SMALL, WORDS, big, little};
+use crate::tests::checks::{Told, check_str, check_told};
+use crate::tests::files::{BIG, SMALL, WORDS, big, little};
 use perf_file::{BadFeature, EscapedBytes, Feature, Recording};
 use std::alloc::{AllocError, Global};
 use std::process::Abort;
@@ -55,19 +56,9 @@ const FEATURES: [u64; 33] = [
 
 // The small file with features, of which one number is another.
 fn with_features(alloc: Global, place: usize, number: u64) -> Result<Vec<u8>, AllocError> {
-    let mut words = [0; ALL];
-    for index in 0..WORDS {
-        words[index] = SMALL[index];
-    }
-    for index in 0..33 {
-        words[WORDS + index] = FEATURES[index];
-    }
-    words[9] = (1 << 2) + (1 << 3) + (1 << 4) + (1 << 11) + (1 << 21);
-    words[11] = 1 << 2;
-    if place < ALL {
-        words[place] = number;
-    }
-    little(alloc, &words)
+    let features = (1 << 2) + (1 << 3) + (1 << 4) + (1 << 11) + (1 << 21);
+    let changes = [(9, features), (11, 1 << 2), (place, number)];
+    little(alloc, &SMALL, &FEATURES, &changes)
 }
 
 // Appends why a feature cannot be read.
@@ -104,7 +95,7 @@ fn push_words(text: &mut String, recording: &Recording<'_>) -> Result<(), AllocE
 }
 
 /// Appends the build ids of a file.
-pub fn push_builds(text: &mut String, recording: &Recording<'_>) -> Result<(), AllocError> {
+pub fn write_builds(text: &mut String, recording: &Recording<'_>) -> Result<(), AllocError> {
     match recording.build_ids() {
         Ok(Some(builds)) => {
             for build in builds {
@@ -130,20 +121,22 @@ fn push_times(text: &mut String, recording: &Recording<'_>) -> Result<(), AllocE
     text.push_str("\n")
 }
 
-// A line for each call, or why the file is refused.
-fn features_of(alloc: Global, bytes: &[u8]) -> Result<String, AllocError> {
+/// Writes a line for each call.
+pub fn write_features(text: &mut String, recording: &Recording<'_>) -> Result<(), AllocError> {
+    push_bytes(text, recording.hostname())?;
+    push_bytes(text, recording.os_release())?;
+    push_words(text, recording)?;
+    write_builds(text, recording)?;
+    push_times(text, recording)?;
+    push_bytes(text, recording.feature(Feature(130)))?;
+    push_bytes(text, recording.feature(Feature::ARCH))
+}
+
+// The text of lines.
+fn text_of(alloc: Global, lines: &[&str; 7]) -> Result<String, AllocError> {
     let mut text = String::new(alloc);
-    match Recording::open(alloc, bytes) {
-        Ok(recording) => {
-            push_bytes(&mut text, recording.hostname())?;
-            push_bytes(&mut text, recording.os_release())?;
-            push_words(&mut text, &recording)?;
-            push_builds(&mut text, &recording)?;
-            push_times(&mut text, &recording)?;
-            push_bytes(&mut text, recording.feature(Feature(130)))?;
-            push_bytes(&mut text, recording.feature(Feature::ARCH))?;
-        }
-        Err(error) => text.push_str(error.message())?,
+    for line in lines {
+        write!(text, "{line}\n")?;
     }
     Ok(text)
 }
@@ -153,23 +146,10 @@ fn check_features(
     bytes: Result<Vec<u8>, AllocError>,
     want: &[&str; 7],
 ) {
-    match bytes {
-        Ok(bytes) => match features_of(rt.alloc(), &bytes) {
-            Ok(text) => check_lines(rt, &text, want),
-            Err(_) => panic!(rt; "no memory"),
-        },
+    match text_of(rt.alloc(), want) {
+        Ok(want) => check_told(rt, bytes, Told::Features, &want),
         Err(_) => panic!(rt; "no memory"),
     }
-}
-
-fn check_lines(rt: &(impl AllocGlobal + Abort), text: &String, want: &[&str; 7]) {
-    let mut index = 0;
-    for line in text.as_str().lines() {
-        assert!(rt; index < 7);
-        assert_eq!(rt; line, want[index], "line {index}");
-        index += 1;
-    }
-    assert_eq!(rt; index, 7);
 }
 
 const HOST: &str = "host";
@@ -312,26 +292,26 @@ const BIG_FEATURES: [u64; 7] = [
 
 #[test]
 fn features_of_a_big_endian_file(rt: HostRuntime) {
-    let mut words = [0; BIG_WORDS + 7];
-    for index in 0..BIG_WORDS {
-        words[index] = BIG[index];
-    }
-    for index in 0..7 {
-        words[BIG_WORDS + index] = BIG_FEATURES[index];
-    }
-    words[9] = (1 << 3) + (1 << 21);
+    let bytes = big(
+        rt.alloc(),
+        &BIG,
+        &BIG_FEATURES,
+        &[(9, (1 << 3) + (1 << 21))],
+    );
     let want = [HOST, NONE, NONE, NONE, "600 700", NONE, NONE];
-    check_features(&rt, big(rt.alloc(), &words), &want);
+    check_features(&rt, bytes, &want);
 }
 
 #[test]
 fn messages_of_features(rt: HostRuntime) {
-    assert_eq!(rt;
+    check_str(
+        &rt,
         BadFeature::Short.message(),
-        "the feature is damaged: copy the file again, or record again"
+        "the feature is damaged: copy the file again, or record again",
     );
-    assert_eq!(rt;
+    check_str(
+        &rt,
         BadFeature::PastEnd.message(),
-        "the feature ends beyond the file, so it is cut off: copy it again, or record again"
+        "the feature ends beyond the file, so it is cut off: copy it again, or record again",
     );
 }

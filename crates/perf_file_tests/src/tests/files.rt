@@ -113,24 +113,59 @@ pub const BIG: [u64; BIG_WORDS] = [
     (9 << 32) + 64,
 ];
 
-/// The bytes of numbers, the lowest byte of each first.
-pub fn little(alloc: Global, words: &[u64]) -> Result<Vec<u8>, AllocError> {
-    let mut bytes = Vec::new(alloc);
-    for word in words {
-        for byte in word.to_le_bytes() {
-            bytes.push(byte)?;
+// A number at a place, or what the last change there makes of it.
+fn changed(place: usize, number: u64, changes: &[(usize, u64)]) -> u64 {
+    let mut found = number;
+    for (at, other) in changes {
+        if *at == place {
+            found = *other;
         }
     }
+    found
+}
+
+// Appends the bytes of numbers, with changes.
+fn push_numbers(
+    bytes: &mut Vec<u8>,
+    words: &[u64],
+    changes: &[(usize, u64)],
+    is_big: bool,
+) -> Result<(), AllocError> {
+    for word in words {
+        let number = changed(bytes.len() / 8, *word, changes);
+        let eight = if is_big {
+            number.to_be_bytes()
+        } else {
+            number.to_le_bytes()
+        };
+        bytes.extend_from_slice(&eight)?;
+    }
+    Ok(())
+}
+
+/// The bytes of numbers and of more, with changes: the places of some, and other numbers. The lowest byte of
+/// each is first.
+pub fn little(
+    alloc: Global,
+    words: &[u64],
+    more: &[u64],
+    changes: &[(usize, u64)],
+) -> Result<Vec<u8>, AllocError> {
+    let mut bytes = Vec::new(alloc);
+    push_numbers(&mut bytes, words, changes, false)?;
+    push_numbers(&mut bytes, more, changes, false)?;
     Ok(bytes)
 }
 
-/// The bytes of numbers, the highest byte of each first.
-pub fn big(alloc: Global, words: &[u64]) -> Result<Vec<u8>, AllocError> {
+/// The same with the highest byte first.
+pub fn big(
+    alloc: Global,
+    words: &[u64],
+    more: &[u64],
+    changes: &[(usize, u64)],
+) -> Result<Vec<u8>, AllocError> {
     let mut bytes = Vec::new(alloc);
-    for word in words {
-        for byte in word.to_be_bytes() {
-            bytes.push(byte)?;
-        }
-    }
+    push_numbers(&mut bytes, words, changes, true)?;
+    push_numbers(&mut bytes, more, changes, true)?;
     Ok(bytes)
 }

@@ -3,9 +3,8 @@
 ghost use Rattle.std.specs.Prelude.{◌<◌};
 
 use crate::tests::files::little;
-use perf_file::{Event, EventName, Recording};
+use perf_file::{Event, EventName, OpenError, Recording};
 use std::alloc::{AllocError, Global};
-use std::process::Abort;
 
 // How many events there are. For each event its description comes after those of all later events, so
 // a search from the first description on for each event would take minutes.
@@ -38,17 +37,10 @@ const HEAD: [u64; 13] = [
     0,
 ];
 
-fn push_all(words: &mut Vec<u64>, more: &[u64]) -> Result<(), AllocError> {
-    for word in more {
-        words.push(*word)?;
-    }
-    Ok(())
-}
-
 // An attribute of 64 bytes. Every second event has an id, the others have none.
 fn push_attribute(words: &mut Vec<u64>, index: u64) -> Result<(), AllocError> {
     let ty = if index % 2 == 0 { 1 } else { 4 };
-    push_all(words, &[ty + (64 << 32), index, 0, 0x10000, 0, 0, 0, 0])
+    words.extend_from_slice(&[ty + (64 << 32), index, 0, 0x10000, 0, 0, 0, 0])
 }
 
 // Where the ids of an event are.
@@ -56,7 +48,7 @@ fn push_place(words: &mut Vec<u64>, index: u64) -> Result<(), AllocError>
     requires { index < MANY }
 {
     let size = if index % 2 == 0 { 8 } else { 0 };
-    push_all(words, &[IDS + 8 * index, size])
+    words.extend_from_slice(&[IDS + 8 * index, size])
 }
 
 // The letter of an event, as its name.
@@ -69,9 +61,9 @@ fn push_description(words: &mut Vec<u64>, index: u64) -> Result<(), AllocError>
 {
     push_attribute(words, index)?;
     if index % 2 == 0 {
-        push_all(words, &[1 + (8 << 32), letter(index), index + 1])
+        words.extend_from_slice(&[1 + (8 << 32), letter(index), index + 1])
     } else {
-        push_all(words, &[8 << 32, letter(index)])
+        words.extend_from_slice(&[8 << 32, letter(index)])
     }
 }
 
@@ -94,7 +86,7 @@ fn descriptions(words: &mut Vec<u64>) -> Result<(), AllocError> {
         DESCRIPTIONS_SIZE,
         MANY + (64 << 32),
     ];
-    push_all(words, &table)?;
+    words.extend_from_slice(&table)?;
     for back in 0..MANY {
         push_description(words, MANY - 1 - back)?;
     }
@@ -102,41 +94,47 @@ fn descriptions(words: &mut Vec<u64>) -> Result<(), AllocError> {
 }
 
 fn file(alloc: Global) -> Result<Vec<u8>, AllocError> {
-    let mut words = Vec::new(alloc);
-    push_all(&mut words, &HEAD)?;
+    let mut words = Vec::from_slice(alloc, &HEAD)?;
     events(&mut words)?;
     descriptions(&mut words)?;
-    little(alloc, &words)
+    little(alloc, &words, &[], &[])
 }
 
-fn check_name(rt: &impl Abort, event: &Event<'_>, index: u64) {
+// Whether an event is described by its letter.
+fn is_described(event: &Event<'_>, index: u64) -> bool {
     match event.name() {
-        EventName::Described(name) => {
-            assert_eq!(rt; name.len(), 1);
-            assert!(rt; u64::from(name[0]) == letter(index), "event {index}");
-        }
-        _ => panic!(rt; "event {index} is not described"),
+        EventName::Described([name]) => u64::from(*name) == letter(index),
+        _ => false,
     }
 }
 
-fn check_all(rt: &(impl AllocGlobal + Abort), bytes: &[u8]) {
-    match Recording::open(rt.alloc(), bytes) {
+// How many events are described by their letters.
+fn described(events: &[Event<'_>]) -> u64 {
+    let (mut index, mut count) = (0u64, 0u64);
+    for event in events {
+        count = count.saturating_add(u64::from(is_described(event, index)));
+        index = index.saturating_add(1);
+    }
+    count
+}
+
+// How many events a file has, and how many of them are described by their letters.
+fn counts(alloc: Global, bytes: &[u8]) -> Result<(u64, u64), OpenError> {
+    match Recording::open(alloc, bytes) {
         Ok(recording) => {
-            assert_eq!(rt; recording.events().len() as u64, MANY);
-            let mut index = 0;
-            for event in recording.events() {
-                check_name(rt, event, index);
-                index = index.saturating_add(1);
-            }
+            let events = recording.events();
+            let counts = (events.len() as u64, described(events));
+            drop(recording);
+            Ok(counts)
         }
-        Err(error) => panic!(rt; "{error}"),
+        Err(error) => Err(error),
     }
 }
 
 #[test]
 fn each_description_is_read_once(rt: HostRuntime) {
     match file(rt.alloc()) {
-        Ok(bytes) => check_all(&rt, &bytes),
+        Ok(bytes) => assert_eq!(rt; counts(rt.alloc(), &bytes), Ok((MANY, MANY))),
         Err(_) => panic!(rt; "no memory"),
     }
 }

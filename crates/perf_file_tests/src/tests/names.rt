@@ -1,33 +1,12 @@
 //! The names of events: by the descriptions of a file, and by the numbers of their attributes.
 
+use crate::tests::checks::{Told, check_told};
 use crate::tests::files::{BIG, BIG_WORDS, SMALL, WORDS, big, little};
-use perf_file::Recording;
 use std::alloc::{AllocError, Global};
 use std::process::Abort;
 
-// The names of the events of a file, a line for each, or why it is refused.
-fn names_of(alloc: Global, bytes: &[u8]) -> Result<String, AllocError> {
-    let mut text = String::new(alloc);
-    match Recording::open(alloc, bytes) {
-        Ok(recording) => {
-            for event in recording.events() {
-                let line = format!(in alloc; "{}\n", event.name())?;
-                text.push_str(&line)?;
-            }
-        }
-        Err(error) => text.push_str(error.message())?,
-    }
-    Ok(text)
-}
-
 fn check_names(rt: &(impl AllocGlobal + Abort), bytes: Result<Vec<u8>, AllocError>, want: &str) {
-    match bytes {
-        Ok(bytes) => match names_of(rt.alloc(), &bytes) {
-            Ok(text) => assert_eq!(rt; text.as_str(), want),
-            Err(_) => panic!(rt; "no memory"),
-        },
-        Err(_) => panic!(rt; "no memory"),
-    }
+    check_told(rt, bytes, Told::Names, want);
 }
 
 // The table of the features 3 and 12, and the descriptions: of the second event and of the first one,
@@ -74,18 +53,8 @@ const ALL: usize = WORDS + 29;
 
 // The small file with the descriptions, of which one number is another.
 fn described(alloc: Global, place: usize, number: u64) -> Result<Vec<u8>, AllocError> {
-    let mut words = [0; ALL];
-    for index in 0..WORDS {
-        words[index] = SMALL[index];
-    }
-    for index in 0..29 {
-        words[WORDS + index] = DESCRIPTIONS[index];
-    }
-    words[9] = (1 << 3) + (1 << 12);
-    if place < ALL {
-        words[place] = number;
-    }
-    little(alloc, &words)
+    let changes = [(9, (1 << 3) + (1 << 12)), (place, number)];
+    little(alloc, &SMALL, &DESCRIPTIONS, &changes)
 }
 
 const DESCRIBED: &str = "cpu\\x1b\\x5c\\xc3\\xffu\n-faults\n";
@@ -147,10 +116,7 @@ const NUMBERS: [(u64, u64, &str); 8] = [
 
 // The small file with that type and config of its first event.
 fn with_numbers(alloc: Global, ty: u64, config: u64) -> Result<Vec<u8>, AllocError> {
-    let mut words = SMALL;
-    words[15] = ty | 64 << 32;
-    words[16] = config;
-    little(alloc, &words)
+    little(alloc, &SMALL, &[], &[(15, ty | 64 << 32), (16, config)])
 }
 
 #[test]
@@ -180,16 +146,7 @@ const TICK: [u64; 13] = [
 
 // The big-endian file with that description, of the event with that config.
 fn with_tick(alloc: Global, config: u64) -> Result<Vec<u8>, AllocError> {
-    let mut words = [0; BIG_WORDS + 13];
-    for index in 0..BIG_WORDS {
-        words[index] = BIG[index];
-    }
-    for index in 0..13 {
-        words[BIG_WORDS + index] = TICK[index];
-    }
-    words[9] = 1 << 12;
-    words[BIG_WORDS + 4] = config;
-    big(alloc, &words)
+    big(alloc, &BIG, &TICK, &[(9, 1 << 12), (BIG_WORDS + 4, config)])
 }
 
 #[test]

@@ -1,12 +1,11 @@
 //! What `perf record` writes to a pipe.
 
-use crate::tests::features::push_builds;
+use crate::tests::checks::{Told, check_refusal, check_told};
 use crate::tests::files::little;
-use crate::tests::opened::frame_lines;
+use crate::tests::opened::write_frames;
 use perf_base::ErrorKind;
 use perf_file::{EscapedBytes, OpenError, Recording};
 use std::alloc::{AllocError, Global};
-use std::process::Abort;
 
 pub const WORDS: usize = 55;
 
@@ -79,35 +78,41 @@ pub const PIPE: [u64; WORDS] = [
     20,
 ];
 
-// The name of the machine, the events by their names, and the frames: the offset, the type, the
-// length of the payload, and the owner.
-fn lines_of(alloc: Global, recording: &Recording<'_>) -> Result<String, AllocError> {
-    let mut text = String::new(alloc);
+// Writes the events by their names, and how many ids each has.
+fn write_events(text: &mut String, recording: &Recording<'_>) -> Result<(), AllocError> {
+    for event in recording.events() {
+        write!(text, "{} {}\n", event.name(), event.ids().len())?;
+    }
+    Ok(())
+}
+
+// Writes the times of the entries by time that have one, and where they are.
+fn write_times(
+    text: &mut String,
+    alloc: Global,
+    recording: &Recording<'_>,
+) -> Result<(), AllocError> {
+    for entry in &recording.in_order(alloc)? {
+        if entry.time > 0 {
+            write!(text, "{} {}\n", entry.time, entry.at)?;
+        }
+    }
+    Ok(())
+}
+
+/// Writes the name of the machine, the events, the frames, and the times.
+pub fn write_pipe(
+    text: &mut String,
+    alloc: Global,
+    recording: &Recording<'_>,
+) -> Result<(), AllocError> {
     match recording.hostname() {
         Ok(Some(name)) => write!(text, "{}\n", EscapedBytes(name))?,
         _ => text.push_str("-\n")?,
     }
-    for event in recording.events() {
-        write!(text, "{} {}\n", event.name(), event.ids().len())?;
-    }
-    text.push_str(&frame_lines(alloc, recording)?)?;
-    for entry in &recording.in_order(alloc)? {
-        if entry.time > 0 {
-            let line = format!(in alloc; "{} {}\n", entry.time, entry.at)?;
-            text.push_str(&line)?;
-        }
-    }
-    Ok(text)
-}
-
-fn check_lines(rt: &(impl AllocGlobal + Abort), bytes: &[u8], want: &str) {
-    match Recording::open(rt.alloc(), bytes) {
-        Ok(recording) => match lines_of(rt.alloc(), &recording) {
-            Ok(text) => assert_eq!(rt; text.as_str(), want),
-            Err(_) => panic!(rt; "no memory"),
-        },
-        Err(error) => panic!(rt; "{error}"),
-    }
+    write_events(text, recording)?;
+    write_frames(text, recording)?;
+    write_times(text, alloc, recording)
 }
 
 const LINES: &str = "new
@@ -129,10 +134,7 @@ two 1
 
 #[test]
 fn events_and_frames_of_a_pipe(rt: HostRuntime) {
-    match little(rt.alloc(), &PIPE) {
-        Ok(bytes) => check_lines(&rt, &bytes, LINES),
-        Err(_) => panic!(rt; "no memory"),
-    }
+    check_told(&rt, little(rt.alloc(), &PIPE, &[], &[]), Told::Pipe, LINES);
 }
 
 // Which number is another, and how many bytes are kept.
@@ -161,37 +163,10 @@ const REFUSED: [(usize, u64, usize, OpenError); 9] = [
 
 const ALL: usize = 8 * WORDS;
 
-// Whether the pipe, of which one number is another, opens if so many bytes of it are kept, or why not.
-fn opened(
-    rt: &(impl AllocGlobal + Abort),
-    place: usize,
-    number: u64,
-    kept: usize,
-) -> Option<OpenError> {
-    let mut words = PIPE;
-    if place < WORDS {
-        words[place] = number;
-    }
-    match little(rt.alloc(), &words) {
-        Ok(bytes) => match bytes.get(..kept) {
-            Some(bytes) => match Recording::open(rt.alloc(), bytes) {
-                Ok(_) => None,
-                Err(error) => Some(error),
-            },
-            None => panic!(rt; "too few bytes"),
-        },
-        Err(_) => panic!(rt; "no memory"),
-    }
-}
-
 #[test]
 fn each_refusal_of_a_pipe(rt: HostRuntime) {
     for &(place, number, kept, want) in &REFUSED {
-        assert_eq!(rt;
-            opened(&rt, place, number, kept),
-            Some(want),
-            "number {place}"
-        );
+        check_refusal(&rt, &PIPE, (place, number), kept, Some(want));
     }
 }
 
@@ -206,7 +181,7 @@ fn each_cut_of_a_pipe(rt: HostRuntime) {
             104..=175 => Some(OpenError::BadAttribute(1, ErrorKind::Eof)),
             _ => None,
         };
-        assert_eq!(rt; opened(&rt, WORDS, 0, kept), want, "{kept} bytes");
+        check_refusal(&rt, &PIPE, (WORDS, 0), kept, want);
     }
 }
 
@@ -252,34 +227,11 @@ const BUILD_ROWS: [(usize, u64, &str); 6] = [
     (0, 68 + (88 << 48), "-\n"),
 ];
 
-// The build ids of the pipe with these frames, of which one number is another.
-fn builds_of(alloc: Global, place: usize, number: u64) -> Result<String, AllocError> {
-    let mut words = [0; WORDS + 11];
-    for index in 0..WORDS {
-        words[index] = PIPE[index];
-    }
-    for index in 0..11 {
-        words[WORDS + index] = if index == place {
-            number
-        } else {
-            BUILDS[index]
-        };
-    }
-    let bytes = little(alloc, &words)?;
-    let mut text = String::new(alloc);
-    match Recording::open(alloc, &bytes) {
-        Ok(recording) => push_builds(&mut text, &recording)?,
-        Err(error) => text.push_str(error.message())?,
-    }
-    Ok(text)
-}
-
 #[test]
 fn build_ids_of_a_pipe(rt: HostRuntime) {
     for &(place, number, want) in &BUILD_ROWS {
-        match builds_of(rt.alloc(), place, number) {
-            Ok(text) => assert_eq!(rt; text.as_str(), want, "number {place}"),
-            Err(_) => panic!(rt; "no memory"),
-        }
+        let change = [(WORDS.saturating_add(place), number)];
+        let bytes = little(rt.alloc(), &PIPE, &BUILDS, &change);
+        check_told(&rt, bytes, Told::Builds, want);
     }
 }

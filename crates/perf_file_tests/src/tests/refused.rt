@@ -1,43 +1,9 @@
 //! A file for each refusal.
 
-use crate::tests::files::{SMALL, WORDS, little};
+use crate::tests::checks::check_refusal;
+use crate::tests::files::{SMALL, WORDS};
 use perf_base::ErrorKind;
-use perf_file::{OpenError, Part, Recording};
-use std::process::Abort;
-
-// Asserts the refusal of the small file, of which one number is another, and so many bytes are kept.
-fn check_refused(
-    rt: &(impl AllocGlobal + Abort),
-    place: usize,
-    number: u64,
-    kept: usize,
-    want: OpenError,
-) {
-    let mut words = SMALL;
-    if place < WORDS {
-        words[place] = number;
-    }
-    match little(rt.alloc(), &words) {
-        Ok(bytes) => check_opening(rt, place, bytes.get(..kept), want),
-        Err(_) => panic!(rt; "no memory"),
-    }
-}
-
-fn check_opening(
-    rt: &(impl AllocGlobal + Abort),
-    place: usize,
-    bytes: Option<&[u8]>,
-    want: OpenError,
-) {
-    let bytes = match bytes {
-        Some(bytes) => bytes,
-        None => &[],
-    };
-    match Recording::open(rt.alloc(), bytes) {
-        Ok(_) => panic!(rt; "number {place} is accepted"),
-        Err(error) => assert_eq!(rt; error, want, "number {place}"),
-    }
-}
+use perf_file::{OpenError, Part};
 
 // How many bytes the small file has.
 const ALL: usize = 8 * WORDS;
@@ -80,20 +46,15 @@ const REFUSED: [(usize, u64, usize, OpenError); 22] = [
 #[test]
 fn each_refusal(rt: HostRuntime) {
     for &(place, number, kept, want) in &REFUSED {
-        check_refused(&rt, place, number, kept, want);
+        check_refusal(&rt, &SMALL, (place, number), kept, Some(want));
     }
 }
 
 // An entry of 160 bytes, whose attribute states 64.
 #[test]
 fn an_attribute_takes_its_whole_entry(rt: HostRuntime) {
-    check_refused(
-        &rt,
-        2,
-        160,
-        ALL,
-        OpenError::BadAttribute(0, ErrorKind::InvalidRecord),
-    );
+    let want = OpenError::BadAttribute(0, ErrorKind::InvalidRecord);
+    check_refusal(&rt, &SMALL, (2, 160), ALL, Some(want));
 }
 
 // The first 104 bytes are the head; all ids and attributes end at 280, and the data end with the
@@ -107,6 +68,6 @@ fn each_cut_is_refused(rt: HostRuntime) {
             104..=279 => OpenError::PastEnd(Part::Attributes),
             _ => OpenError::PastEnd(Part::Data),
         };
-        check_refused(&rt, WORDS, 0, kept, want);
+        check_refusal(&rt, &SMALL, (WORDS, 0), kept, Some(want));
     }
 }

@@ -7,6 +7,7 @@ use perf_history::{
     keeps_address,
 };
 use std::alloc::{AllocError, Global};
+use std::process::Abort;
 
 // A change, without what no test depends on.
 #[derive(Clone, Copy)]
@@ -59,12 +60,63 @@ fn change_of(step: Step) -> Change<'static> {
     }
 }
 
-fn history_of(alloc: Global, steps: &[Step]) -> Result<History<'static>, AllocError> {
-    let mut history = History::new(alloc);
+fn apply_all(history: &mut History<'static>, steps: &[Step]) -> Result<(), AllocError> {
     for step in steps {
         history.apply(change_of(*step))?;
     }
-    Ok(history)
+    Ok(())
+}
+
+// A thread, and its name.
+type NameRow = (u32, Name<'static>);
+
+// A process, the mode, an address, and what is there: the file and the offset.
+type PlaceRow = (u32, Mode, u64, Option<(File<'static>, u64)>);
+
+// The first thread that has another name.
+fn wrong_name(history: &History<'static>, rows: &[NameRow]) -> Option<u32> {
+    for (tid, name) in rows {
+        if history.comm(*tid) != *name {
+            return Some(*tid);
+        }
+    }
+    None
+}
+
+// The first address where something else is.
+fn wrong_place(history: &History<'static>, rows: &[PlaceRow]) -> Option<u64> {
+    for (pid, mode, address, place) in rows {
+        if at(history, *pid, *mode, *address) != *place {
+            return Some(*address);
+        }
+    }
+    None
+}
+
+// The first thread that has another name after these steps, and the first address where something else is.
+fn wrong_after(
+    alloc: Global,
+    steps: &[Step],
+    names: &[NameRow],
+    places: &[PlaceRow],
+) -> Result<(Option<u32>, Option<u64>), AllocError> {
+    let mut history = History::new(alloc);
+    let applied = apply_all(&mut history, steps);
+    let wrong = (wrong_name(&history, names), wrong_place(&history, places));
+    drop(history);
+    applied?;
+    Ok(wrong)
+}
+
+// Asserts names and places after these steps.
+fn check_after(
+    rt: &(impl AllocGlobal + Abort),
+    steps: &[Step],
+    names: &[NameRow],
+    places: &[PlaceRow],
+) {
+    let wrong = wrong_after(rt.alloc(), steps, names, places);
+    assert!(rt; wrong == Ok((None, None)), "{wrong:?}");
 }
 
 const NAMING: [Step; 9] = [
@@ -79,7 +131,7 @@ const NAMING: [Step; 9] = [
     Step::Process(12, 5, false),
 ];
 
-const NAMES: [(u32, Name<'static>); 9] = [
+const NAMES: [NameRow; 9] = [
     (0, Name::Swapper),
     (5, Name::Number(5)),
     (6, Name::Number(6)),
@@ -92,12 +144,8 @@ const NAMES: [(u32, Name<'static>); 9] = [
 ];
 
 #[test]
-fn names(rt: HostRuntime) -> Result<(), AllocError> {
-    let history = history_of(rt.alloc(), &NAMING)?;
-    for (tid, name) in &NAMES {
-        assert_eq!(rt; history.comm(*tid), *name);
-    }
-    Ok(())
+fn names(rt: HostRuntime) {
+    check_after(&rt, &NAMING, &NAMES, &[]);
 }
 
 const MAPPING: [Step; 12] = [
@@ -127,8 +175,7 @@ const MAPPING: [Step; 12] = [
     ),
 ];
 
-// A process, the mode, an address, and what is there: the file and the offset.
-const PLACES: [(u32, Mode, u64, Option<(File<'static>, u64)>); 19] = [
+const PLACES: [PlaceRow; 19] = [
     (
         7,
         Mode::User,
@@ -199,15 +246,8 @@ fn at(
 }
 
 #[test]
-fn files(rt: HostRuntime) -> Result<(), AllocError> {
-    let history = history_of(rt.alloc(), &MAPPING)?;
-    for (pid, mode, address, place) in &PLACES {
-        assert!(rt;
-            at(&history, *pid, *mode, *address) == *place,
-            "{pid} at {address:#x}"
-        );
-    }
-    Ok(())
+fn files(rt: HostRuntime) {
+    check_after(&rt, &MAPPING, &[], &PLACES);
 }
 
 const INODE: Identity<'static> = Identity::Inode(Inode {

@@ -113,18 +113,36 @@ fn agrees(history: &History<'static>, changes: &[Change<'static>], numbers: &mut
     true
 }
 
+// Applies changes to a history, and lists them.
+fn change_both(
+    history: &mut History<'static>,
+    changes: &mut Vec<Change<'static>>,
+    numbers: &mut Numbers,
+) -> Result<(), AllocError> {
+    for _ in 0..numbers.below(50) {
+        let change = numbers.change();
+        history.apply(change)?;
+        changes.push(change)?;
+    }
+    Ok(())
+}
+
+// Whether a generated history agrees with the search.
+fn seed_agrees(alloc: Global, seed: u64) -> Result<bool, AllocError> {
+    let mut numbers = Numbers { state: seed };
+    let (mut history, mut changes) = (History::new(alloc), Vec::new(alloc));
+    let changed = change_both(&mut history, &mut changes, &mut numbers);
+    let agrees = agrees(&history, &changes, &mut numbers);
+    drop(history);
+    drop(changes);
+    changed?;
+    Ok(agrees)
+}
+
 // The first generated history that differs from the search.
 fn first_difference(alloc: Global, count: u64) -> Result<Option<u64>, AllocError> {
     for seed in 0..count {
-        let mut numbers = Numbers { state: seed };
-        let mut history = History::new(alloc);
-        let mut changes = Vec::new(alloc);
-        for _ in 0..numbers.below(50) {
-            let change = numbers.change();
-            history.apply(change)?;
-            changes.push(change)?;
-        }
-        if !agrees(&history, &changes, &mut numbers) {
+        if !seed_agrees(alloc, seed)? {
             return Ok(Some(seed));
         }
     }
@@ -132,7 +150,7 @@ fn first_difference(alloc: Global, count: u64) -> Result<Option<u64>, AllocError
 }
 
 #[test]
-fn histories_agree(rt: HostRuntime) -> Result<(), AllocError> {
-    assert_eq!(rt; first_difference(rt.alloc(), HISTORIES)?, None);
-    Ok(())
+fn histories_agree(rt: HostRuntime) {
+    let difference = first_difference(rt.alloc(), HISTORIES);
+    assert!(rt; difference == Ok(None), "{difference:?}");
 }

@@ -2,7 +2,7 @@
 //! that is returned is that memory ran out.
 
 use crate::tests::page::Page;
-use crate::tests::requests::tell;
+use crate::tests::requests::{Found, tell};
 use perf_event_data::RunEnd;
 use perf_event_data::endian::Little;
 use perf_event_data::parse::ErrorKind;
@@ -31,24 +31,14 @@ const SAMPLES: &[u8] = b"\0\0\0\0\x40\0\0\0\0\0\0\0\0\0\0\0\0\0\0\0\0\0\0\0\x21\
     \x09\0\0\0\0\0\x18\0\x01\0\0\0\0\0\0\0\0\0\0\0\0\0\0\0\
     \x09\0\0\0\0\0\x28\0\x02\0\0\0\0\0\0\0\x02\0\0\0\0\0\0\0\x0A\0\0\0\0\0\0\0\x14\0\0\0\0\0\0\0";
 
-// How printing ended.
-#[derive(Copy, Clone, PartialEq)]
-enum Ending {
-    // With all lines.
-    All,
-    // Out of memory, after this many lines.
-    Starved(usize),
-    Other,
-}
-
 // The number of lines, if the text is of whole lines.
-fn whole_lines(text: &[u8]) -> Option<usize> {
+fn whole_lines(text: &[u8]) -> Option<u64> {
     if !text.is_empty() && !text.ends_with(b"\n") {
         return None;
     }
-    let mut count = 0usize;
+    let mut count = 0u64;
     for byte in text {
-        count = count.saturating_add(usize::from(*byte == b'\n'));
+        count = count.saturating_add(u64::from(*byte == b'\n'));
     }
     Some(count)
 }
@@ -58,17 +48,17 @@ fn is_starved(error: &[u8]) -> bool {
     error == b"out of memory".as_slice() || error == b"memory allocation failed".as_slice()
 }
 
-// How printing ended, by what was printed and the text of its error.
-fn end_of(text: &[u8], error: &[u8]) -> Ending {
+// What was printed: the number of whole lines, and 0 with no error, 1 with one that memory ran out, or else 2.
+fn end_of(text: &[u8], error: &[u8]) -> Found {
     match whole_lines(text) {
-        Some(2) if error.is_empty() => Ending::All,
-        Some(count) if is_starved(error) => Ending::Starved(count),
-        _ => Ending::Other,
+        Some(count) if error.is_empty() => [count, 0, 0, 0],
+        Some(count) if is_starved(error) => [count, 1, 0, 0],
+        _ => [0, 2, 0, 0],
     }
 }
 
 // How a recording is printed. What is printed is compared with these lines, if any are given.
-fn printed(alloc: Global, recording: &[u8], report: Report, lines: &[u8]) -> Ending {
+fn printed(alloc: Global, recording: &[u8], report: Report, lines: &[u8]) -> Found {
     let (outcome, output, mut errors) = print_buffer(
         alloc,
         recording,
@@ -84,12 +74,12 @@ fn printed(alloc: Global, recording: &[u8], report: Report, lines: &[u8]) -> End
     if lines.is_empty() || lines.starts_with(output.text()) {
         end_of(output.text(), errors.text())
     } else {
-        Ending::Other
+        [0, 2, 0, 0]
     }
 }
 
-// The ends that may be: with all lines; after the first one, or before it.
-const ENDINGS: [Ending; 3] = [Ending::All, Ending::Starved(1), Ending::Starved(0)];
+// The ends that may be: with both lines; out of memory after the first one, or before it.
+const ENDINGS: [Found; 3] = [[2, 0, 0, 0], [1, 1, 0, 0], [0, 1, 0, 0]];
 
 #[test]
 fn a_report_of_tasks(rt: HostRuntime) {
@@ -103,31 +93,26 @@ fn a_report_of_samples(rt: HostRuntime) {
     tell(&rt, "a report of samples", found, &ENDINGS);
 }
 
-// The counts of the samples, and whether it ended with the bytes or out of memory.
-fn counted(alloc: Global) -> (Counts, Option<bool>) {
+// The counts, and 0 if it ended with the bytes, 1 if out of memory, or else 2.
+fn with_end(counts: &Counts, end: u64) -> Found {
+    [counts.records, counts.refused, counts.checksum, end]
+}
+
+// The counts of the samples, and how it ended.
+fn counted(alloc: Global) -> Found {
     match count_stream(alloc, SAMPLES, Little, true) {
-        Ok((counts, RunEnd::Done)) => (counts, Some(true)),
+        Ok((counts, RunEnd::Done)) => with_end(&counts, 0),
         Ok((counts, RunEnd::Fault(error))) if error.kind() == ErrorKind::OutOfMemory => {
-            (counts, Some(false))
+            with_end(&counts, 1)
         }
-        Ok((counts, _)) => (counts, None),
-        Err(_) => (Counts::NONE, None),
+        Ok((counts, _)) => with_end(&counts, 2),
+        Err(_) => with_end(&Counts::NONE, 2),
     }
 }
 
 // Of the first sample 9 + 24 + 1, and of the second 9 + 40 + 2 + 10 + 20.
 #[test]
 fn counts_of_samples(rt: HostRuntime) {
-    let both = Counts {
-        records: 2,
-        refused: 0,
-        checksum: 34 + 81,
-    };
-    let first = Counts {
-        records: 1,
-        refused: 0,
-        checksum: 34,
-    };
-    let wanted = [(both, Some(true)), (first, Some(false))];
+    let wanted = [[2, 0, 34 + 81, 0], [1, 0, 34, 1]];
     tell(&rt, "counts of samples", counted(rt.alloc()), &wanted);
 }

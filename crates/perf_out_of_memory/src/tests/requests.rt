@@ -1,19 +1,20 @@
 //! How many requests for memory calls make, and what they return if one is refused.
 //!
-//! Each test makes its calls over bytes that are the same in each run, and then prints how many of
-//! the next requests are granted before one is refused. If the request R of the test is refused and
-//! G are granted after its calls, they made R - 1 - G requests.
+//! Each row of the table makes its calls over bytes that are the same in each run, and then prints how
+//! many of the next requests are granted before one is refused. If the request R is refused and G are
+//! granted after its calls, they made R - 1 - G requests. The tests with refused allocations try each row
+//! alone.
 
 ghost use Rattle.std.specs.Prelude.{⊤};
 
-use bitflags::Flags;
 use perf_event_data::endian::{Endian, Little};
 use perf_event_data::parse::{ErrorKind, ParseBuf, ParseConfig, ParseResult, Parser};
 use perf_event_data::sys::perf_event_attr;
 use perf_event_data::{
-    BadFrame, Frame, FrameHandler, Partial, PartialVisitor, PieceBuf, Record, RecordMetadata,
-    Sample, SampleFlags, each_frame, frames, read_records,
+    BadFrame, BranchEntry, Frame, FrameHandler, Partial, PartialVisitor, PieceBuf, ReadGroup,
+    Record, RecordMetadata, Registers, Sample, each_frame, frames, read_records,
 };
+use perf_flat::frame::FlatFrame;
 use perf_flat::read::{identifier, read, read_into, read_many, read_split};
 use std::alloc::Global;
 use std::io::BufReader;
@@ -32,10 +33,14 @@ fn granted(alloc: Global) -> usize {
     MOST
 }
 
-// The place of the first of these values that equals another.
-fn place_of<T: PartialEq>(found: &T, wanted: &[T]) -> Option<usize> {
+/// What calls returned, as up to four numbers. Of calls over frames these are one bit for each that gave a value,
+/// was refused for its bytes, or ran out of memory, and the sum of the values.
+pub type Found = [u64; 4];
+
+// The place of the first of these that equals another.
+fn place_of(found: Found, wanted: &[Found]) -> Option<usize> {
     for (place, value) in wanted.iter().enumerate() {
-        if *value == *found {
+        if *value == found {
             return Some(place);
         }
     }
@@ -44,14 +49,9 @@ fn place_of<T: PartialEq>(found: &T, wanted: &[T]) -> Option<usize> {
 
 /// Prints what a test found, and how many requests are granted after its calls. It is what it has to
 /// be, or, after a refused request, what it may be then.
-pub fn tell<T: PartialEq + Copy>(
-    rt: &(impl AllocGlobal + Print + Abort),
-    name: &str,
-    found: T,
-    wanted: &[T],
-) {
+pub fn tell(rt: &(impl AllocGlobal + Print + Abort), name: &str, found: Found, wanted: &[Found]) {
     let count = granted(rt.alloc());
-    let place = place_of(&found, wanted);
+    let place = place_of(found, wanted);
     let _ = println!(rt; "{name}: result {place:?}, {count} granted");
     assert!(rt; place.is_some(), "{name}: another result");
     assert!(rt;
@@ -60,44 +60,15 @@ pub fn tell<T: PartialEq + Copy>(
     );
 }
 
-// What calls returned, one bit for each: a value, a refusal for its bytes, or out of memory; and a sum
-// of the values.
-#[derive(Copy, Clone, PartialEq)]
-struct Tally {
-    given: u32,
-    refused: u32,
-    starved: u32,
-    sum: u64,
-}
-
-impl Tally {
-    const NONE: Tally = Tally {
-        given: 0,
-        refused: 0,
-        starved: 0,
-        sum: 0,
-    };
-
-    // Adds what the call with this bit returned.
-    fn add(&mut self, bit: u32, answer: ParseResult<u64>) {
-        match answer {
-            Ok(value) => {
-                self.given |= bit;
-                self.sum = self.sum.wrapping_add(value);
-            }
-            Err(error) if error.kind() == ErrorKind::OutOfMemory => self.starved |= bit,
-            Err(_) => self.refused |= bit,
+// Adds what the call with this bit returned.
+fn add(found: &mut Found, bit: u64, answer: ParseResult<u64>) {
+    match answer {
+        Ok(value) => {
+            found[0] |= bit;
+            found[3] = found[3].wrapping_add(value);
         }
-    }
-}
-
-// A tally without a call out of memory.
-fn fed(given: u32, refused: u32, sum: u64) -> Tally {
-    Tally {
-        given,
-        refused,
-        starved: 0,
-        sum,
+        Err(error) if error.kind() == ErrorKind::OutOfMemory => found[2] |= bit,
+        Err(_) => found[1] |= bit,
     }
 }
 
@@ -126,25 +97,43 @@ fn value_of(sample: &Sample<'_>) -> u64 {
     calls.wrapping_add(sample.ip().unwrap_or(0))
 }
 
+// The sum of the values of a group.
+fn sum_of_group(group: &ReadGroup<'_>) -> u64 {
+    let mut sum = 0u64;
+    for entry in group.entries() {
+        sum = sum.wrapping_add(entry.value());
+    }
+    sum
+}
+
+// The sum of where branches came from.
+fn sum_of_branches(branches: &[BranchEntry]) -> u64 {
+    let mut sum = 0u64;
+    for branch in branches {
+        sum = sum.wrapping_add(branch.from());
+    }
+    sum
+}
+
+// The sum of registers.
+fn sum_of_registers(registers: Option<&Registers<'_>>) -> u64 {
+    match registers {
+        Some(registers) => sum_of(registers.regs.as_slice()),
+        None => 0,
+    }
+}
+
 // The sum of the numbers in a sample's other lists: its counters, where its branches came from, and
 // its registers.
 fn lists_of(sample: &Sample<'_>) -> u64 {
-    let mut sum = 0u64;
-    if let Some(group) = sample.values() {
-        for entry in group.entries() {
-            sum = sum.wrapping_add(entry.value());
-        }
-    }
-    for branch in sample.lbr().unwrap_or_default() {
-        sum = sum.wrapping_add(branch.from());
-    }
-    if let Some(registers) = sample.regs_user() {
-        sum = sum.wrapping_add(sum_of(registers.regs.as_slice()));
-    }
-    if let Some(registers) = sample.regs_intr() {
-        sum = sum.wrapping_add(sum_of(registers.regs.as_slice()));
-    }
-    sum
+    let counters = match sample.values() {
+        Some(group) => sum_of_group(group),
+        None => 0,
+    };
+    let branches = sum_of_branches(sample.lbr().unwrap_or_default());
+    let user = sum_of_registers(sample.regs_user());
+    let interrupt = sum_of_registers(sample.regs_intr());
+    sum_of(&[counters, branches, user, interrupt])
 }
 
 // Those of a sample; 0 of any other record.
@@ -196,31 +185,57 @@ fn by_sample_into<'p>(
     }
 }
 
-// What a call makes of the frames of these bytes.
-fn tally_of(alloc: Global, bytes: &[u8], attr: perf_event_attr, call: Call) -> Tally {
-    let config = ParseConfig::<Little>::from(attr);
-    let mut place = Sample::default();
-    let (mut tally, mut bit) = (Tally::NONE, 1u32);
-    for frame in frames(bytes, Little) {
-        let Ok(frame) = frame else { continue };
-        let answer = match call {
-            Call::SampleInto => by_sample_into(alloc, &config, &frame, &mut place),
-            Call::Record => by_record(alloc, &config, &frame),
-            Call::Visit => frame.visit(alloc, &config, Partial(Values)),
-        };
-        tally.add(bit, answer);
-        bit = bit.rotate_left(1);
+// What a call makes of a frame.
+fn answer_of<'p>(
+    alloc: Global,
+    config: &ParseConfig<Little>,
+    frame: &Frame<'_, 'p>,
+    place: &mut Sample<'p>,
+    call: Call,
+) -> ParseResult<u64> {
+    match call {
+        Call::SampleInto => by_sample_into(alloc, config, frame, place),
+        Call::Record => by_record(alloc, config, frame),
+        Call::Visit => frame.visit(alloc, config, Partial(Values)),
     }
-    drop(place);
-    tally
 }
 
-fn samples_of(flags: SampleFlags) -> perf_event_attr {
+// What a call makes of the frames of these bytes.
+fn tally_of(alloc: Global, bytes: &[u8], attr: perf_event_attr, call: Call) -> Found {
+    let config = ParseConfig::<Little>::from(attr);
+    let mut place = Sample::default();
+    let mut found: Found = [0; 4];
+    let mut bit = 1u64;
+    for frame in frames(bytes, Little) {
+        if let Ok(frame) = frame {
+            let answer = answer_of(alloc, &config, &frame, &mut place, call);
+            add(&mut found, bit, answer);
+            bit = bit.rotate_left(1);
+        }
+    }
+    drop(place);
+    found
+}
+
+// The attribute of an event with these samples, and with user registers 0 and 1 and register 0 at an
+// interrupt, and groups of counters, if they have any.
+fn attr_of(sample_type: u64) -> perf_event_attr {
     perf_event_attr {
-        sample_type: flags.bits(),
+        sample_type,
+        read_format: 0x8,
+        sample_regs_user: 0b11,
+        sample_regs_intr: 0b1,
         ..Default::default()
     }
 }
+
+// IP and RAW, and IP and CALLCHAIN.
+const RAW: u64 = 0x401;
+
+const CHAIN: u64 = 0x21;
+
+// READ, BRANCH_STACK, REGS_USER and REGS_INTR.
+const EACH_LIST: u64 = 0x4_1810;
 
 // An address and raw bytes, twice: at 1 and at 2.
 const PLAIN: &[u8] = b"\x09\0\0\0\0\0\x18\0\x01\0\0\0\0\0\0\0\x04\0\0\0abcd\
@@ -231,61 +246,8 @@ const CHAINS: &[u8] = b"\x09\0\0\0\0\0\x28\0\x01\0\0\0\0\0\0\0\x02\0\0\0\0\0\0\0
     \x0A\0\0\0\0\0\0\0\x14\0\0\0\0\0\0\0\
     \x09\0\0\0\0\0\x20\0\x02\0\0\0\0\0\0\0\x01\0\0\0\0\0\0\0\x1E\0\0\0\0\0\0\0";
 
-fn with_raw() -> perf_event_attr {
-    perf_event_attr {
-        sample_type: SampleFlags::IP.bits() | SampleFlags::RAW.bits(),
-        ..Default::default()
-    }
-}
-
-fn with_chains() -> perf_event_attr {
-    perf_event_attr {
-        sample_type: SampleFlags::IP.bits() | SampleFlags::CALLCHAIN.bits(),
-        ..Default::default()
-    }
-}
-
-#[test]
-fn samples_of_plain_numbers_and_byte_strings(rt: HostRuntime) {
-    let name = "samples without a list, into a place";
-    let found = tally_of(rt.alloc(), PLAIN, with_raw(), Call::SampleInto);
-    tell(&rt, name, found, &[fed(3, 0, 3)]);
-}
-
-#[test]
-fn visits_of_plain_numbers_and_byte_strings(rt: HostRuntime) {
-    let found = tally_of(rt.alloc(), PLAIN, with_raw(), Call::Visit);
-    tell(&rt, "visits without a list", found, &[fed(3, 0, 3)]);
-}
-
 // What may be found of the two chains: both, one of them, or the other.
-const OF_CHAINS: [Tally; 3] = [
-    Tally {
-        given: 3,
-        refused: 0,
-        starved: 0,
-        sum: 63,
-    },
-    Tally {
-        given: 2,
-        refused: 0,
-        starved: 1,
-        sum: 32,
-    },
-    Tally {
-        given: 1,
-        refused: 0,
-        starved: 2,
-        sum: 31,
-    },
-];
-
-#[test]
-fn samples_with_a_list(rt: HostRuntime) {
-    let name = "samples with a list, into a place";
-    let found = tally_of(rt.alloc(), CHAINS, with_chains(), Call::SampleInto);
-    tell(&rt, name, found, &OF_CHAINS);
-}
+const OF_CHAINS: [Found; 3] = [[3, 0, 0, 63], [2, 0, 1, 32], [1, 0, 2, 31]];
 
 // Addresses 1 to 4 with the calls 10, then 20 to 40, 50 and 60, 70 to 90: the first two lists grow.
 const GROWING: &[u8] = b"\x09\0\0\0\0\0\x20\0\x01\0\0\0\0\0\0\0\x01\0\0\0\0\0\0\0\x0A\0\0\0\0\0\0\0\
@@ -297,33 +259,7 @@ const GROWING: &[u8] = b"\x09\0\0\0\0\0\x20\0\x01\0\0\0\0\0\0\0\x01\0\0\0\0\0\0\
     \x46\0\0\0\0\0\0\0\x50\0\0\0\0\0\0\0\x5A\0\0\0\0\0\0\0";
 
 // All of them, all but the first, or all but the second.
-const OF_GROWING: [Tally; 3] = [
-    Tally {
-        given: 15,
-        refused: 0,
-        starved: 0,
-        sum: 460,
-    },
-    Tally {
-        given: 14,
-        refused: 0,
-        starved: 1,
-        sum: 449,
-    },
-    Tally {
-        given: 13,
-        refused: 0,
-        starved: 2,
-        sum: 368,
-    },
-];
-
-#[test]
-fn samples_with_growing_lists(rt: HostRuntime) {
-    let name = "samples with growing lists, into a place";
-    let found = tally_of(rt.alloc(), GROWING, with_chains(), Call::SampleInto);
-    tell(&rt, name, found, &OF_GROWING);
-}
+const OF_GROWING: [Found; 3] = [[15, 0, 0, 460], [14, 0, 1, 449], [13, 0, 2, 368]];
 
 // Three samples, each with a group of counters, branches, registers of the program and at the
 // interrupt: 2, 1, 2 and 1 of these, then 1, 1, 2 and 1, then 3, 2, 2 and 1. All numbers that count
@@ -342,191 +278,145 @@ const LISTS: &[u8] = b"\x09\0\0\0\0\0\x68\0\x02\0\0\0\0\0\0\0\x01\0\0\0\0\0\0\0\
     \x02\0\0\0\0\0\0\0\0\0\x01\0\0\0\0\0\0\0\x02\0\0\0\0\0\
     \x02\0\0\0\0\0\0\0\0\0\x04\0\0\0\0\0";
 
-fn with_lists() -> perf_event_attr {
-    let counts = SampleFlags::READ.bits() | SampleFlags::BRANCH_STACK.bits();
-    let registers = SampleFlags::REGS_USER.bits() | SampleFlags::REGS_INTR.bits();
-    perf_event_attr {
-        sample_type: counts | registers,
-        read_format: 0x8,
-        sample_regs_user: 0b11,
-        sample_regs_intr: 0b1,
-        ..Default::default()
-    }
-}
-
 // All of them, or all but the first.
-const OF_LISTS: [Tally; 2] = [
-    Tally {
-        given: 7,
-        refused: 0,
-        starved: 0,
-        sum: (1 << 19) - 1,
-    },
-    Tally {
-        given: 6,
-        refused: 0,
-        starved: 1,
-        sum: (1 << 19) - (1 << 6),
-    },
-];
-
-#[test]
-fn samples_with_each_list(rt: HostRuntime) {
-    let name = "samples with each list, into a place";
-    let found = tally_of(rt.alloc(), LISTS, with_lists(), Call::SampleInto);
-    tell(&rt, name, found, &OF_LISTS);
-}
-
-#[test]
-fn visits_with_a_list(rt: HostRuntime) {
-    let found = tally_of(rt.alloc(), CHAINS, with_chains(), Call::Visit);
-    tell(&rt, "visits with a list", found, &OF_CHAINS);
-}
-
-#[test]
-fn records_with_a_list(rt: HostRuntime) {
-    let found = tally_of(rt.alloc(), CHAINS, with_chains(), Call::Record);
-    tell(&rt, "records with a box and a list", found, &OF_CHAINS);
-}
+const OF_LISTS: [Found; 2] = [[7, 0, 0, (1 << 19) - 1], [6, 0, 1, (1 << 19) - (1 << 6)]];
 
 // COMM, LOST_SAMPLES and SWITCH, whose bodies are numbers and byte strings.
 const RECORDS: &[u8] = b"\x03\0\0\0\0\0\x18\0\x01\0\0\0\x02\0\0\0sh\0\0\0\0\0\0\
     \x0D\0\0\0\0\0\x10\0\x05\0\0\0\0\0\0\0\x0E\0\0\0\0\0\x08\0";
 
-#[test]
-fn records_of_numbers_and_byte_strings(rt: HostRuntime) {
-    let found = tally_of(rt.alloc(), RECORDS, with_raw(), Call::Record);
-    tell(&rt, "records without a list", found, &[fed(7, 0, 0)]);
-}
-
 // ---- lists that do not fit
 
-// A sample type, a read format, and a sample whose list claims more than it has.
-const LYING: [(SampleFlags, u64, &[u8]); 7] = [
+// A sample type, and a sample whose list claims more than it has.
+const LYING: [(u64, &[u8]); 7] = [
+    // CALLCHAIN
     (
-        SampleFlags::CALLCHAIN,
-        0,
+        0x20,
         b"\x09\0\0\0\0\0\x18\0\0\0\0\x10\0\0\0\0\x01\0\0\0\0\0\0\0",
     ),
+    // BRANCH_STACK
     (
-        SampleFlags::BRANCH_STACK,
-        0,
+        0x800,
         b"\x09\0\0\0\0\0\x28\0\0\0\0\x10\0\0\0\0\x01\0\0\0\0\0\0\0\x02\0\0\0\0\0\0\0\x03\0\0\0\0\0\0\0",
     ),
+    // READ, of groups
     (
-        SampleFlags::READ,
-        0x8,
+        0x10,
         b"\x09\0\0\0\0\0\x18\0\0\0\0\x10\0\0\0\0\x01\0\0\0\0\0\0\0",
     ),
+    // REGS_USER
     (
-        SampleFlags::REGS_USER,
-        0,
+        0x1000,
         b"\x09\0\0\0\0\0\x18\0\x02\0\0\0\0\0\0\0\x01\0\0\0\0\0\0\0",
     ),
+    // STACK_USER
     (
-        SampleFlags::STACK_USER,
-        0,
+        0x2000,
         b"\x09\0\0\0\0\0\x18\0\0\0\0\x10\0\0\0\0\x01\0\0\0\0\0\0\0",
     ),
+    // AUX
     (
-        SampleFlags::AUX,
-        0,
+        0x10_0000,
         b"\x09\0\0\0\0\0\x18\0\0\0\0\x10\0\0\0\0\x01\0\0\0\0\0\0\0",
     ),
-    (
-        SampleFlags::RAW,
-        0,
-        b"\x09\0\0\0\0\0\x10\0\0\0\0\x10\x01\0\0\0",
-    ),
+    // RAW
+    (0x400, b"\x09\0\0\0\0\0\x10\0\0\0\0\x10\x01\0\0\0"),
 ];
 
 // NAMESPACES that claims 2^28 of them.
 const LYING_NAMESPACES: &[u8] =
     b"\x10\0\0\0\0\0\x28\0\x01\0\0\0\x02\0\0\0\0\0\0\x10\0\0\0\0\x04\0\0\0\0\0\0\0\x15\0\0\0\0\0\0\0";
 
-// Which of these samples are refused for their bytes, and whether those namespaces are.
-fn refused_of(alloc: Global, call: Call) -> (u32, u32) {
-    let (mut refused, mut bit) = (0u32, 1u32);
-    for (flags, read_format, bytes) in &LYING {
+// Which of these samples are refused for their bytes.
+fn refused_samples(alloc: Global, call: Call) -> u64 {
+    let (mut refused, mut bit) = (0u64, 1u64);
+    for (sample_type, bytes) in &LYING {
         let attr = perf_event_attr {
-            read_format: *read_format,
             sample_regs_user: 0xFF,
-            ..samples_of(*flags)
+            ..attr_of(*sample_type)
         };
-        if tally_of(alloc, bytes, attr, call) == fed(0, 1, 0) {
+        if tally_of(alloc, *bytes, attr, call) == [0, 1, 0, 0] {
             refused |= bit;
         }
         bit = bit.rotate_left(1);
     }
+    refused
+}
+
+// The same, and whether those namespaces are.
+fn refused_of(alloc: Global, call: Call) -> Found {
     let of_records = match call {
         Call::SampleInto => Call::Record,
         other => other,
     };
-    let namespaces = tally_of(alloc, LYING_NAMESPACES, with_raw(), of_records);
-    (refused, namespaces.refused)
+    let [_, namespaces, ..] = tally_of(alloc, LYING_NAMESPACES, attr_of(RAW), of_records);
+    [refused_samples(alloc, call), namespaces, 0, 0]
 }
 
-#[test]
-fn lists_that_do_not_fit(rt: HostRuntime) {
-    let found = refused_of(rt.alloc(), Call::SampleInto);
-    tell(&rt, "lying lists, into a place", found, &[(127, 1)]);
-}
-
-#[test]
-fn visits_of_lists_that_do_not_fit(rt: HostRuntime) {
-    let found = refused_of(rt.alloc(), Call::Visit);
-    tell(&rt, "visits of lying lists", found, &[(127, 1)]);
-}
-
-// How many numbers are parsed by a claim of 2^28, over eight bytes.
-#[test]
-fn lists_of_a_parser_that_do_not_fit(rt: HostRuntime) {
+// Why a claim of 2^28 numbers, over eight bytes, is refused: 1 for too few bytes, 2 for out of memory, or
+// else 0.
+fn lying_parser(alloc: Global) -> Found {
     let config = ParseConfig::<Little>::default();
-    let mut parser = Parser::new(rt.alloc(), b"\x01\0\0\0\x02\0\0\0".as_slice(), config);
-    let found = match parser.parse_repeated::<u64>(1 << 28) {
-        Ok(_) => None,
-        Err(error) => Some(error.kind()),
-    };
-    let (eof, starved) = (Some(ErrorKind::Eof), Some(ErrorKind::OutOfMemory));
-    tell(&rt, "a lying list of a parser", found, &[eof, starved]);
+    let mut parser = Parser::new(alloc, b"\x01\0\0\0\x02\0\0\0".as_slice(), config);
+    match parser.parse_repeated::<u64>(1 << 28) {
+        Err(error) if error.kind() == ErrorKind::Eof => [1, 0, 0, 0],
+        Err(error) if error.kind() == ErrorKind::OutOfMemory => [2, 0, 0, 0],
+        _ => [0; 4],
+    }
 }
 
 // ---- single numbers, runs and flat frames
 
-// The sum of the single numbers of the frames of these bytes, with what their metadata has.
-fn numbers_of(alloc: Global, bytes: &[u8]) -> u64 {
-    let config = ParseConfig::<Little>::from(perf_event_attr {
-        flags: 1 << 18,
-        ..samples_of(SampleFlags::TIME)
-    });
+// The single numbers of a frame, with what its metadata has.
+fn numbers_in(
+    alloc: Global,
+    config: &ParseConfig<Little>,
+    frame: &Frame<'_, '_>,
+) -> [Option<u64>; 4] {
+    let time = match frame.metadata(alloc, config) {
+        Ok(metadata) => metadata.sample_id().time(),
+        Err(_) => None,
+    };
+    [
+        frame.time(config),
+        frame.id(config),
+        frame.identifier(&Little),
+        time,
+    ]
+}
+
+// The task and the processor of a frame.
+fn task_in(config: &ParseConfig<Little>, frame: &Frame<'_, '_>) -> [Option<u32>; 3] {
+    [frame.pid(config), frame.tid(config), frame.cpu(config)]
+}
+
+// The sum of all of these.
+fn sum_in(alloc: Global, config: &ParseConfig<Little>, frame: &Frame<'_, '_>) -> u64 {
     let mut sum = 0u64;
-    for frame in frames(bytes, Little) {
-        let Ok(frame) = frame else { continue };
-        let (pid, tid) = (frame.pid(&config), frame.tid(&config));
-        let numbers = [
-            frame.time(&config),
-            frame.id(&config),
-            frame.identifier(&Little),
-        ];
-        for &number in &numbers {
-            sum = sum.wrapping_add(number.unwrap_or(0));
-        }
-        for &number in &[pid, tid, frame.cpu(&config)] {
-            sum = sum.wrapping_add(u64::from(number.unwrap_or(0)));
-        }
-        if let Ok(metadata) = frame.metadata(alloc, &config) {
-            sum = sum.wrapping_add(metadata.sample_id().time().unwrap_or(0));
-        }
+    for number in &numbers_in(alloc, config, frame) {
+        sum = sum.wrapping_add(number.unwrap_or(0));
+    }
+    for number in &task_in(config, frame) {
+        sum = sum.wrapping_add(u64::from(number.unwrap_or(0)));
     }
     sum
 }
 
-// The COMM of RECORDS ends with `sh` and zero bytes, which are its time, 26739, and what stands where
-// an identifier would be; so does LOST_SAMPLES with 5.
-#[test]
-fn single_numbers(rt: HostRuntime) {
-    let found = numbers_of(rt.alloc(), RECORDS);
-    tell(&rt, "single numbers", found, &[3 * (26739 + 5)]);
+// The sum of the single numbers of the frames of RECORDS. The COMM ends with `sh` and zero bytes, which are its
+// time, 26739, and what stands where an identifier would be; so does LOST_SAMPLES with 5.
+fn numbers_of(alloc: Global) -> u64 {
+    let config = ParseConfig::<Little>::from(perf_event_attr {
+        sample_type: 0x4,
+        flags: 1 << 18,
+        ..Default::default()
+    });
+    let mut sum = 0u64;
+    for frame in frames(RECORDS, Little) {
+        if let Ok(frame) = frame {
+            sum = sum.wrapping_add(sum_in(alloc, &config, &frame));
+        }
+    }
+    sum
 }
 
 // Adds the sizes of the frames that are handed out.
@@ -553,94 +443,240 @@ fn sizes_of<'p, B: ParseBuf<'p> + Drop>(alloc: Global, buf: B) -> u64 {
     let mut parser = Parser::new(alloc, buf, ParseConfig::<Little>::default());
     let mut sizes = Sizes { sum: 0 };
     each_frame(&mut parser, 100, &mut sizes);
+    drop(parser);
     sizes.sum
 }
 
-#[test]
-fn runs_that_hand_out_frames(rt: HostRuntime) {
-    let alloc = rt.alloc();
-    let found = [
+// The same of a slice, and of pieces of which one lasts.
+fn sizes_of_pieces(alloc: Global) -> Found {
+    [
         sizes_of(alloc, RECORDS),
         sizes_of(alloc, PieceBuf::new(RECORDS, 64, true)),
         sizes_of(alloc, PieceBuf::new(RECORDS, 64, false)),
-    ];
-    tell(&rt, "frames that are handed out", found, &[[24, 24, 24]]);
+        0,
+    ]
 }
 
-#[test]
-fn a_run_that_hands_out_frames_of_a_reader(rt: HostRuntime) {
-    let found = match BufReader::with_capacity(rt.alloc(), 64, RECORDS) {
-        Ok(reader) => sizes_of(rt.alloc(), reader),
+// The same of a reader.
+fn sizes_of_reader(alloc: Global) -> u64 {
+    match BufReader::with_capacity(alloc, 64, RECORDS) {
+        Ok(reader) => sizes_of(alloc, reader),
         Err(_) => 0,
-    };
-    tell(&rt, "frames of a reader", found, &[24, 0]);
+    }
 }
 
 // How many records a run lists.
-fn listed<'p, B: ParseBuf<'p> + Drop>(alloc: Global, buf: B) -> usize {
+fn listed<'p, B: ParseBuf<'p> + Drop>(alloc: Global, buf: B) -> u64 {
     let mut parser = Parser::new(alloc, buf, ParseConfig::<Little>::default());
     let run = read_records(&mut parser, 100);
-    let count = run.frames.len();
+    let count = run.frames.len() as u64;
     drop(run);
+    drop(parser);
     count
 }
 
-#[test]
-fn a_list_of_records(rt: HostRuntime) {
-    let found = listed(rt.alloc(), RECORDS);
-    tell(&rt, "a list of records", found, &[3]);
-}
-
-#[test]
-fn a_list_of_records_of_pieces_that_last(rt: HostRuntime) {
-    let found = listed(rt.alloc(), PieceBuf::new(RECORDS, 64, true));
-    tell(&rt, "a list of records of pieces", found, &[3]);
-}
-
-// Of LOST_SAMPLES and SWITCH, as the name in a COMM is copied.
-#[test]
-fn a_list_of_records_of_a_reader(rt: HostRuntime) {
-    let found = match BufReader::with_capacity(rt.alloc(), 64, &RECORDS[24..]) {
-        Ok(reader) => listed(rt.alloc(), reader),
+// The same of a reader: LOST_SAMPLES and SWITCH, as the name in a COMM is copied.
+fn listed_of_reader(alloc: Global) -> u64 {
+    match BufReader::with_capacity(alloc, 64, &RECORDS[24..]) {
+        Ok(reader) => listed(alloc, reader),
         Err(_) => 0,
-    };
-    tell(&rt, "a list of records of a reader", found, &[2, 0]);
+    }
 }
 
-// What flat frames have, by each call that makes one, of frames of samples: the sum of the first
-// number of each.
+// The address in a flat frame.
+fn address_of(frame: &FlatFrame) -> u64 {
+    frame.numbers[0]
+}
+
+// The addresses of the samples with chains by a call that makes several flat frames, if there are two.
+fn many_addresses(alloc: Global, config: &ParseConfig<Little>, frame: FlatFrame) -> Option<u64> {
+    let mut frames = [frame; 3];
+    let many = read_many(alloc, config, CHAINS, &mut frames);
+    match many.count {
+        2 => Some(address_of(&frames[0]).wrapping_add(address_of(&frames[1]))),
+        _ => None,
+    }
+}
+
+// That of the second one in the place of a frame.
+fn second_address(config: &ParseConfig<Little>, frame: FlatFrame) -> Option<u64> {
+    let mut frame = frame;
+    if read_into(config, &CHAINS[40..], &mut frame) {
+        Some(address_of(&frame))
+    } else {
+        None
+    }
+}
+
+// That of the first one in two pieces.
+fn split_address(alloc: Global, config: &ParseConfig<Little>, frame: FlatFrame) -> Option<u64> {
+    let (mut frame, mut scratch) = (frame, [0; 64]);
+    let (first, second) = CHAINS.split_at(20);
+    let end = read_split(alloc, config, first, second, &mut scratch, &mut frame);
+    match end.how {
+        0 => Some(address_of(&frame)),
+        _ => None,
+    }
+}
+
+// The sum of the first number of each flat frame, by each call that makes one, and of the identifier.
 fn flat_sum(alloc: Global) -> u64 {
-    let config = ParseConfig::<Little>::from(with_chains());
+    let config = ParseConfig::<Little>::from(attr_of(CHAIN));
     let Some(frame) = read(alloc, &config, CHAINS) else {
         return 0;
     };
-    let (mut frames, mut into) = ([frame; 3], frame);
-    let many = read_many(alloc, &config, CHAINS, &mut frames);
-    let is_read = read_into(&config, &CHAINS[40..], &mut into);
-    let mut scratch = [0; 64];
-    let mut split = frame;
-    let end = read_split(
-        alloc,
-        &config,
-        &CHAINS[..20],
-        &CHAINS[20..],
-        &mut scratch,
-        &mut split,
-    );
-    let [first, second, _] = frames;
-    let mut sum = identifier(CHAINS, &Little, false).unwrap_or(0);
-    for found in &[frame, first, second, into, split] {
-        let [ip, ..] = found.numbers;
-        sum = sum.wrapping_add(ip);
+    let found = [
+        Some(address_of(&frame)),
+        many_addresses(alloc, &config, frame),
+        second_address(&config, frame),
+        split_address(alloc, &config, frame),
+        identifier(CHAINS, &Little, false),
+    ];
+    let mut sum = 0u64;
+    for number in &found {
+        match number {
+            Some(number) => sum = sum.wrapping_add(*number),
+            None => return 0,
+        }
     }
-    match (many.count, is_read, end.how) {
-        (2, true, 0) => sum,
-        _ => 0,
+    sum
+}
+
+// ---- the table
+
+// What is called.
+#[derive(Copy, Clone)]
+enum Called {
+    Over(&'static [u8], u64, Call),
+    LyingLists(Call),
+    LyingParser,
+    Numbers,
+    HandedOut,
+    HandedOutOfReader,
+    Listed,
+    ListedOfPieces,
+    ListedOfReader,
+    Flat,
+}
+
+// What calls return.
+fn found_by(alloc: Global, calls: Called) -> Found {
+    let number = match calls {
+        Called::Over(bytes, sample_type, call) => {
+            return tally_of(alloc, bytes, attr_of(sample_type), call);
+        }
+        Called::LyingLists(call) => return refused_of(alloc, call),
+        Called::LyingParser => return lying_parser(alloc),
+        Called::HandedOut => return sizes_of_pieces(alloc),
+        Called::Numbers => numbers_of(alloc),
+        Called::HandedOutOfReader => sizes_of_reader(alloc),
+        Called::Listed => listed(alloc, RECORDS),
+        Called::ListedOfPieces => listed(alloc, PieceBuf::new(RECORDS, 64, true)),
+        Called::ListedOfReader => listed_of_reader(alloc),
+        Called::Flat => flat_sum(alloc),
+    };
+    [number, 0, 0, 0]
+}
+
+// What is called, and what it returns, or may return after a refused request.
+type Row<'a> = (&'a str, Called, &'a [Found]);
+
+const TABLE: [Row<'static>; 18] = [
+    (
+        "samples without a list, into a place",
+        Called::Over(PLAIN, RAW, Call::SampleInto),
+        &[[3, 0, 0, 3]],
+    ),
+    (
+        "visits without a list",
+        Called::Over(PLAIN, RAW, Call::Visit),
+        &[[3, 0, 0, 3]],
+    ),
+    (
+        "samples with a list, into a place",
+        Called::Over(CHAINS, CHAIN, Call::SampleInto),
+        &OF_CHAINS,
+    ),
+    (
+        "samples with growing lists, into a place",
+        Called::Over(GROWING, CHAIN, Call::SampleInto),
+        &OF_GROWING,
+    ),
+    (
+        "samples with each list, into a place",
+        Called::Over(LISTS, EACH_LIST, Call::SampleInto),
+        &OF_LISTS,
+    ),
+    (
+        "visits with a list",
+        Called::Over(CHAINS, CHAIN, Call::Visit),
+        &OF_CHAINS,
+    ),
+    (
+        "records with a box and a list",
+        Called::Over(CHAINS, CHAIN, Call::Record),
+        &OF_CHAINS,
+    ),
+    (
+        "records without a list",
+        Called::Over(RECORDS, RAW, Call::Record),
+        &[[7, 0, 0, 0]],
+    ),
+    (
+        "lying lists, into a place",
+        Called::LyingLists(Call::SampleInto),
+        &[[127, 1, 0, 0]],
+    ),
+    (
+        "visits of lying lists",
+        Called::LyingLists(Call::Visit),
+        &[[127, 1, 0, 0]],
+    ),
+    (
+        "a lying list of a parser",
+        Called::LyingParser,
+        &[[1, 0, 0, 0], [2, 0, 0, 0]],
+    ),
+    (
+        "single numbers",
+        Called::Numbers,
+        &[[3 * (26739 + 5), 0, 0, 0]],
+    ),
+    (
+        "frames that are handed out",
+        Called::HandedOut,
+        &[[24, 24, 24, 0]],
+    ),
+    (
+        "frames of a reader",
+        Called::HandedOutOfReader,
+        &[[24, 0, 0, 0], [0; 4]],
+    ),
+    ("a list of records", Called::Listed, &[[3, 0, 0, 0]]),
+    (
+        "a list of records of pieces",
+        Called::ListedOfPieces,
+        &[[3, 0, 0, 0]],
+    ),
+    (
+        "a list of records of a reader",
+        Called::ListedOfReader,
+        &[[2, 0, 0, 0], [0; 4]],
+    ),
+    (
+        "flat frames",
+        Called::Flat,
+        &[[1 + (1 + 1 + 2 + 2 + 1), 0, 0, 0]],
+    ),
+];
+
+fn tell_rows(rt: &(impl AllocGlobal + Print + Abort), rows: &[Row<'_>]) {
+    for (name, calls, wanted) in rows {
+        tell(rt, *name, found_by(rt.alloc(), *calls), *wanted);
     }
 }
 
 #[test]
-fn flat_frames(rt: HostRuntime) {
-    let found = flat_sum(rt.alloc());
-    tell(&rt, "flat frames", found, &[1 + (1 + 1 + 2 + 2 + 1)]);
+fn requests_of_calls(rt: HostRuntime) {
+    tell_rows(&rt, &TABLE);
 }

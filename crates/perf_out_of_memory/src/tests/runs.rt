@@ -3,11 +3,10 @@
 //! The first request for memory of each test is the reader's, and the next ones are the run's.
 
 use crate::tests::page::Page;
-use bitflags::Flags;
 use perf_event_data::endian::Little;
 use perf_event_data::parse::{ErrorKind, ParseConfig, ParseResult, Parser};
 use perf_event_data::sys::{perf_event_attr, perf_event_header};
-use perf_event_data::{Record, Run, RunEnd, SampleFlags, read_records};
+use perf_event_data::{Record, RunEnd, read_records};
 use perf_lines::line::line_of;
 use perf_lines::outcome::Outcome;
 use perf_lines::run::run;
@@ -16,11 +15,9 @@ use std::io::BufReader;
 use std::process::Abort;
 
 // Whether a request for memory is granted, and whether the next one is.
-fn are_granted(alloc: Global) -> [bool; 2] {
-    [
-        Vec::from_slice(alloc, &[0u8]).is_ok(),
-        Vec::from_slice(alloc, &[0u8]).is_ok(),
-    ]
+fn are_granted(alloc: Global) -> (bool, bool) {
+    let first = Vec::from_slice(alloc, &[0u8]).is_ok();
+    (first, Vec::from_slice(alloc, &[0u8]).is_ok())
 }
 
 // The line of a frame, tried again if memory runs out: one request is refused, and no further one.
@@ -36,19 +33,18 @@ fn line_at_last(
     }
 }
 
-// Asserts that what is listed is a prefix of these lines.
-fn check_lines(rt: &(impl AllocGlobal + Abort), run: &Run<'_>, lines: &[&str]) {
-    assert!(rt;
-        run.frames.len() <= lines.len(),
-        "{} are listed",
-        run.frames.len()
-    );
-    for (index, ((header, answer), want)) in run.frames.iter().zip(lines).enumerate() {
-        match line_at_last(rt.alloc(), index, header, answer) {
-            Ok(line) => assert_eq!(rt; line.as_str(), *want),
-            Err(_) => panic!(rt; "no memory"),
+// A header, and the record or why there is none.
+type Answer<'p> = (perf_event_header, ParseResult<Record<'p>>);
+
+// Whether what is listed is a prefix of these lines.
+fn are_first(alloc: Global, frames: &[Answer<'_>], lines: &[&str]) -> bool {
+    for (index, ((header, answer), want)) in frames.iter().zip(lines).enumerate() {
+        match line_at_last(alloc, index, header, answer) {
+            Ok(line) if line.as_str() == *want => {}
+            _ => return false,
         }
     }
+    frames.len() <= lines.len()
 }
 
 // How a run ended.
@@ -62,94 +58,118 @@ fn ending(end: &RunEnd) -> &'static str {
     }
 }
 
-// Asserts that a run over a reader of these bytes lists frames with these lines and ends so, or, if
-// memory runs out, that it lists the first of them. Prints which it is, and whether the next two
-// requests are granted, which shows how many requests the run made.
-fn check_run(
-    rt: &(impl AllocGlobal + Print + Abort),
-    name: &str,
-    (bytes, sample_type): (&[u8], u64),
-    limit: usize,
-    (lines, end): (&[&str], &str),
-) {
-    let Ok(reader) = BufReader::with_capacity(rt.alloc(), 8192, bytes) else {
-        return;
-    };
+// Bytes, the sample type that they are read under, and the limit of a run over them.
+type Input<'a> = (&'a [u8], u64, usize);
+
+// What a run over a reader lists: how many frames, whether they are the first of these lines, how it ended, and
+// whether the next two requests are granted, which shows how many requests the run made. None without a
+// reader.
+fn listed(
+    alloc: Global,
+    input: Input<'_>,
+    lines: &[&str],
+) -> Option<(usize, bool, &'static str, (bool, bool))> {
+    let (bytes, sample_type, limit) = input;
+    let reader = BufReader::with_capacity(alloc, 8192, bytes).ok()?;
     let attr = perf_event_attr {
         sample_type,
         ..Default::default()
     };
-    let mut parser = Parser::new(rt.alloc(), reader, ParseConfig::<Little>::from(attr));
+    let mut parser = Parser::new(alloc, reader, ParseConfig::<Little>::from(attr));
     let run = read_records(&mut parser, limit);
-    let grants = are_granted(rt.alloc());
+    let grants = are_granted(alloc);
     let (count, end) = (run.frames.len(), ending(&run.end));
-    let _ = println!(rt; "{name}: {count} listed, {end}, then {grants:?}");
-    check_lines(rt, &run, lines);
-    assert!(rt;
-        end == "out of memory" || (count, end) == (lines.len(), end),
-        "{end}"
-    );
+    let are_first = are_first(alloc, &run.frames, lines);
+    drop(run);
+    drop(parser);
+    Some((count, are_first, end, grants))
 }
 
-// ---- runs that list nothing
+// What a run is over, and its lines and its end, if it has memory.
+type Row<'a> = (&'a str, Input<'a>, &'a [&'a str], &'a str);
 
-#[test]
-fn a_run_over_nothing(rt: HostRuntime) {
-    check_run(&rt, "nothing", (b"", 0), 10, (&[], "done"));
+// Asserts that runs list frames with these lines and end so, or, if memory runs out, that they list the first of
+// them. Prints which it is, and what is granted then.
+fn check_runs(rt: &(impl AllocGlobal + Print + Abort), rows: &[Row<'_>]) {
+    for (name, input, lines, last) in rows {
+        let Some((count, are_first, end, (first, second))) = listed(rt.alloc(), *input, *lines)
+        else {
+            continue;
+        };
+        let _ = println!(rt; "{name}: {count} listed, {end}, then [{first}, {second}]");
+        assert!(rt; are_first, "{name}: other lines");
+        assert!(rt; is_end(count, end, lines.len(), *last), "{name}: {end}");
+    }
 }
 
-#[test]
-fn a_run_over_half_a_header(rt: HostRuntime) {
-    check_run(&rt, "half a header", (b"\x0D\0\0\0", 0), 10, (&[], "cut"));
+// Whether a run may end so, whose whole list has these counts and ends.
+fn is_end(count: usize, end: &str, whole: usize, last: &str) -> bool {
+    end == "out of memory" || count == whole && end == last
 }
 
-#[test]
-fn a_run_without_a_limit_to_reach(rt: HostRuntime) {
-    let bytes = b"\x0D\0\0\0\0\0\x10\0\x05\0\0\0\0\0\0\0";
-    check_run(&rt, "no frame", (bytes, 0), 0, (&[], "limit"));
-}
+// The sample types of call chains alone, and of them and raw bytes.
+const CHAINS: u64 = 0x20;
 
-// ---- samples
-
-// Lost samples, and then a sample with a call chain.
-#[test]
-fn a_call_chain(rt: HostRuntime) {
-    let bytes = b"\x0D\0\0\0\0\0\x10\0\x05\0\0\0\0\0\0\0\
-        \x09\0\0\0\0\0\x20\0\x02\0\0\0\0\0\0\0\x01\0\0\0\0\0\0\0\x02\0\0\0\0\0\0\0";
-    let lines = [
-        "0 13 0 16 LostSamples lost=5",
-        "1 9 0 32 Sample callchain=1,2",
-    ];
-    let of_chains = (bytes.as_slice(), SampleFlags::CALLCHAIN.bits());
-    check_run(&rt, "a call chain", of_chains, 10, (&lines, "done"));
-}
+const CHAINS_AND_RAW: u64 = 0x420;
 
 // The line of a sample that is refused.
-const REFUSED: [&str; 1] = ["0 9 0 24 refused Eof"];
+const REFUSED: &[&str] = &["0 9 0 24 refused Eof"];
 
-// A call chain that claims four numbers and contains one. The sample is refused for that, even if
-// the allocation of its box fails.
-#[test]
-fn a_call_chain_that_is_too_short(rt: HostRuntime) {
-    let bytes = b"\x09\0\0\0\0\0\x18\0\x04\0\0\0\0\0\0\0\x01\0\0\0\0\0\0\0";
-    let of_chains = (bytes.as_slice(), SampleFlags::CALLCHAIN.bits());
-    check_run(&rt, "a short chain", of_chains, 10, (&REFUSED, "done"));
-}
-
-// A call chain without the raw bytes that should follow. The sample is refused for that, even if
-// the allocation of its box fails, but if that of the chain's list fails, out of memory comes
-// first.
-#[test]
-fn a_call_chain_without_raw_bytes(rt: HostRuntime) {
-    let bytes = b"\x09\0\0\0\0\0\x18\0\x01\0\0\0\0\0\0\0\x07\0\0\0\0\0\0\0";
-    let flags = SampleFlags::CALLCHAIN.bits() | SampleFlags::RAW.bits();
-    check_run(
-        &rt,
+// The tests with refused allocations try each row alone.
+const RUNS: [Row<'static>; 6] = [
+    ("nothing", (b"", 0, 10), &[], "done"),
+    ("half a header", (b"\x0D\0\0\0", 0, 10), &[], "cut"),
+    (
+        "no frame",
+        (b"\x0D\0\0\0\0\0\x10\0\x05\0\0\0\0\0\0\0", 0, 0),
+        &[],
+        "limit",
+    ),
+    // Lost samples, and then a sample with a call chain.
+    (
+        "a call chain",
+        (
+            b"\x0D\0\0\0\0\0\x10\0\x05\0\0\0\0\0\0\0\
+            \x09\0\0\0\0\0\x20\0\x02\0\0\0\0\0\0\0\x01\0\0\0\0\0\0\0\x02\0\0\0\0\0\0\0",
+            CHAINS,
+            10,
+        ),
+        &[
+            "0 13 0 16 LostSamples lost=5",
+            "1 9 0 32 Sample callchain=1,2",
+        ],
+        "done",
+    ),
+    // A call chain that claims four numbers and contains one. The sample is refused for that, even if
+    // the allocation of its box fails.
+    (
+        "a short chain",
+        (
+            b"\x09\0\0\0\0\0\x18\0\x04\0\0\0\0\0\0\0\x01\0\0\0\0\0\0\0",
+            CHAINS,
+            10,
+        ),
+        REFUSED,
+        "done",
+    ),
+    // A call chain without the raw bytes that should follow. The sample is refused for that, even if
+    // the allocation of its box fails, but if that of the chain's list fails, out of memory comes
+    // first.
+    (
         "a chain alone",
-        (bytes.as_slice(), flags),
-        10,
-        (&REFUSED, "done"),
-    );
+        (
+            b"\x09\0\0\0\0\0\x18\0\x01\0\0\0\0\0\0\0\x07\0\0\0\0\0\0\0",
+            CHAINS_AND_RAW,
+            10,
+        ),
+        REFUSED,
+        "done",
+    ),
+];
+
+#[test]
+fn runs_over_a_reader(rt: HostRuntime) {
+    check_runs(&rt, &RUNS);
 }
 
 // ---- the text of a run

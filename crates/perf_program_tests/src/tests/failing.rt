@@ -2,9 +2,10 @@
 
 ghost use Rattle.std.specs.Prelude.{◌<◌};
 
-use crate::tests::checks::check_same;
+use crate::tests::checks::{check_kept, check_same, check_written};
 use crate::tests::runs::{
-    PLAIN_64, PLAIN_72, PLAIN_100, REFUSED, REFUSED_TEXT, RunCase, TEXT, check_run, join,
+    ONE_AFTER_64, PLAIN_64, PLAIN_100, REFUSED, REFUSED_TEXT, RunCase, TEXT, TWO_AFTER_72,
+    check_run,
 };
 use perf_event_data::endian::Little;
 use perf_lines::outcome::Outcome;
@@ -14,7 +15,6 @@ use perf_test_inputs::bytes::{FIVE_LOST, TWO};
 use perf_test_inputs::orders::Counting;
 use perf_test_inputs::readers::Failing;
 use perf_text::output::write_whole;
-use std::alloc::AllocError;
 use std::cell::Cell;
 use std::io;
 use std::io::{Read, Write};
@@ -95,13 +95,11 @@ const INSIDE: [(usize, io::ErrorKind, &str); 9] = [
 ];
 
 #[test]
-fn a_fault_inside_the_attribute_is_no_refusal(rt: HostRuntime) -> Result<(), AllocError> {
-    let input = join(rt.alloc(), &PLAIN_72, &FIVE_LOST)?;
+fn a_fault_inside_the_attribute_is_no_refusal(rt: HostRuntime) {
     for &(count, kind, text) in &INSIDE {
-        let bytes = &input[..count.min(input.len())];
+        let bytes = &TWO_AFTER_72[..count.min(TWO_AFTER_72.len())];
         check_reads(&rt, true, bytes, Some(kind), text, Outcome::Faulted);
     }
-    Ok(())
 }
 
 // Bytes that end, and what is written.
@@ -112,13 +110,11 @@ const ENDING: [(&[u8], &str, Outcome); 3] = [
 ];
 
 #[test]
-fn a_reader_may_give_one_byte_a_read(rt: HostRuntime) -> Result<(), AllocError> {
+fn a_reader_may_give_one_byte_a_read(rt: HostRuntime) {
     for &(bytes, text, outcome) in &ENDING {
         check_reads(&rt, false, bytes, None, text, outcome);
     }
-    let input = join(rt.alloc(), &PLAIN_72, &TWO)?;
-    check_reads(&rt, true, &input, None, TEXT, Outcome::Clean);
-    Ok(())
+    check_reads(&rt, true, &TWO_AFTER_72, None, TEXT, Outcome::Clean);
 }
 
 // ---- writers
@@ -180,8 +176,7 @@ fn check_writer(
         limits,
     };
     let end = run(rt.alloc(), input, &mut writer, Little, 10, false, 8192);
-    let actual = (writer.output.as_slice(), end);
-    check_same(rt, "what is kept", actual, (output, outcome));
+    check_written(rt, (&writer.output, end), (output, outcome));
 }
 
 // Asserts what a writer has kept of a text that it could not take as a whole.
@@ -191,26 +186,33 @@ fn check_part(rt: &(impl AllocGlobal + Abort), limits: Limits, text: &[u8], outp
         limits,
     };
     let is_whole = write_and_flush(&mut writer, text);
-    let actual = (writer.output.as_slice(), is_whole);
-    check_same(rt, "what is kept", actual, (output, false));
+    check_kept(rt, (&writer.output, is_whole), (output, false));
 }
+
+// How many bytes a writer takes at a time, and whether a write fails after them, or takes nothing.
+const WAYS: [(usize, bool); 6] = [
+    (1, true),
+    (1, false),
+    (4, true),
+    (4, false),
+    (8192, true),
+    (8192, false),
+];
 
 #[test]
 fn nothing_is_written_after_a_failure(rt: HostRuntime) {
     let text = REFUSED_TEXT.as_bytes();
     for room in 0..text.len() {
         let output = &text[..room.min(text.len())];
-        for &most in &[1, 4, 8192] {
-            for &fails in &[true, false] {
-                let limits = Limits {
-                    most,
-                    room,
-                    fails,
-                    lasts: false,
-                };
-                check_writer(&rt, limits, &REFUSED, output, Outcome::Stopped);
-                check_part(&rt, limits, text, output);
-            }
+        for &(most, fails) in &WAYS {
+            let limits = Limits {
+                most,
+                room,
+                fails,
+                lasts: false,
+            };
+            check_writer(&rt, limits, &REFUSED, output, Outcome::Stopped);
+            check_part(&rt, limits, text, output);
         }
     }
 }
@@ -343,21 +345,24 @@ fn all_reading_comes_before_all_writing(rt: HostRuntime) {
 const WITHOUT_MEMORY: &str = "end fault OutOfMemory\n";
 
 // Attributes of 64 bytes, alone and before five lost samples, and one that is refused, with the
-// limit and what is written. The configuration after the attribute has a byte order of its own.
+// limit and what is written.
+const ATTRIBUTES: [(usize, &[u8], &str, Outcome); 4] = [
+    (10, &PLAIN_64, WITHOUT_MEMORY, Outcome::Faulted),
+    (10, &ONE_AFTER_64, WITHOUT_MEMORY, Outcome::Faulted),
+    (0, &ONE_AFTER_64, WITHOUT_MEMORY, Outcome::Faulted),
+    (
+        10,
+        &PLAIN_100,
+        "attr refused InvalidRecord\n",
+        Outcome::BadAttr,
+    ),
+];
+
+// The configuration after the attribute has a byte order of its own.
 #[test]
-fn a_refused_order_ends_the_text_out_of_memory(rt: HostRuntime) -> Result<(), AllocError> {
-    let (calls, input) = (Cell::new(0), join(rt.alloc(), &PLAIN_64, &FIVE_LOST)?);
-    for &(limit, bytes, text, outcome) in &[
-        (10, PLAIN_64.as_slice(), WITHOUT_MEMORY, Outcome::Faulted),
-        (10, input.as_slice(), WITHOUT_MEMORY, Outcome::Faulted),
-        (0, input.as_slice(), WITHOUT_MEMORY, Outcome::Faulted),
-        (
-            10,
-            PLAIN_100.as_slice(),
-            "attr refused InvalidRecord\n",
-            Outcome::BadAttr,
-        ),
-    ] {
+fn a_refused_order_ends_the_text_out_of_memory(rt: HostRuntime) {
+    let calls = Cell::new(0);
+    for &(limit, bytes, text, outcome) in &ATTRIBUTES {
         let actual = RunCase {
             limit,
             with_attr: true,
@@ -366,7 +371,6 @@ fn a_refused_order_ends_the_text_out_of_memory(rt: HostRuntime) -> Result<(), Al
         };
         check_run(&rt, bytes, Counting::single(&calls), actual);
     }
-    Ok(())
 }
 
 #[test]
@@ -398,7 +402,6 @@ fn an_interrupted_write_is_made_again(rt: HostRuntime) {
             limits,
         };
         let is_whole = write_whole(&mut writer, text, true).is_ok();
-        let actual = (writer.output.as_slice(), is_whole);
-        check_same(&rt, "what is kept", actual, (text, true));
+        check_kept(&rt, (&writer.output, is_whole), (text, true));
     }
 }

@@ -29,18 +29,14 @@ fn many_frames_end_by_room_by_bytes_or_in_a_header(rt: HostRuntime) {
     let mut frames = [blank(&rt); 3];
     let mut one = [blank(&rt)];
     let cut = read_many(rt.alloc(), &config, STREAM, &mut frames);
-    let [first, second, _] = frames;
+    let (number, reason) = (frames[0].numbers[1], frames[1].reason);
     let full = read_many(rt.alloc(), &config, STREAM, &mut one);
     let done = read_many(rt.alloc(), &config, &STREAM[..20], &mut frames);
     check_debug(
         &rt,
-        (cut, first.numbers[1], second.reason),
-        "(Ended { count: 2, taken: 32, how: 2 }, 7, 1)",
-    );
-    check_debug(
-        &rt,
-        (full, done),
-        "(Ended { count: 1, taken: 24, how: 0 }, Ended { count: 1, taken: 20, how: 1 })",
+        (number, reason, [cut, full, done]),
+        "(7, 1, [Ended { count: 2, taken: 32, how: 2 }, Ended { count: 1, taken: 24, how: 0 }, \
+            Ended { count: 1, taken: 20, how: 1 }])",
     );
 }
 
@@ -58,25 +54,39 @@ fn split(
 
 #[test]
 fn a_frame_in_two_pieces_is_copied_if_it_is_in_both(rt: HostRuntime) {
-    let (alloc, mut frame, mut room) = (rt.alloc(), blank(&rt), [1; 24]);
+    let (mut frame, mut room) = (blank(&rt), [1; 24]);
     let (front, back) = STREAM.split_at(10);
-    let small = split(alloc, front, back, &mut room[..23], &mut frame);
-    let read = split(alloc, front, back, &mut room, &mut frame);
-    let [span, ..] = frame.spans;
+    let small = split(rt.alloc(), front, back, &mut room[..23], &mut frame);
+    let read = split(rt.alloc(), front, back, &mut room, &mut frame);
     check_debug(
         &rt,
-        (small, read, span, [room[16], room[17], room[18]]),
+        (small, read, frame.spans[0], [room[16], room[17], room[18]]),
         "(SplitEnd { how: 3, at: 0 }, SplitEnd { how: 0, at: 1 }, Span { at: 16, len: 2 }, [115, 104, 0])",
     );
-    let whole = split(alloc, &STREAM[..24], &STREAM[24..], &mut [], &mut frame);
-    let second = split(alloc, &[], STREAM, &mut [], &mut frame);
-    let none = split(alloc, &[], &[], &mut [], &mut frame);
-    let cut = split(alloc, &STREAM[..3], &STREAM[3..7], &mut [], &mut frame);
-    check_debug(
-        &rt,
-        [whole, second, none, cut],
-        "[SplitEnd { how: 0, at: 0 }, SplitEnd { how: 0, at: 0 }, SplitEnd { how: 1, at: 0 }, SplitEnd { how: 2, at: 0 }]",
+}
+
+// Pieces without a frame in both, and how a read of them ends.
+const APART: [(&[u8], &[u8], &str); 3] = [
+    (&[], STREAM, "SplitEnd { how: 0, at: 0 }"),
+    (&[], &[], "SplitEnd { how: 1, at: 0 }"),
+    (&[3, 0, 0], &[0, 0, 32, 24], "SplitEnd { how: 2, at: 0 }"),
+];
+
+#[test]
+fn a_frame_in_one_piece_is_read_there(rt: HostRuntime) {
+    let mut frame = blank(&rt);
+    let whole = split(
+        rt.alloc(),
+        &STREAM[..24],
+        &STREAM[24..],
+        &mut [],
+        &mut frame,
     );
+    check_debug(&rt, whole, "SplitEnd { how: 0, at: 0 }");
+    for &(first, second, want) in &APART {
+        let end = split(rt.alloc(), first, second, &mut [], &mut frame);
+        check_debug(&rt, end, want);
+    }
 }
 
 // A SAMPLE whose first eight bytes are 5, and a COMM of the thread 2, called `a`, which ends with
@@ -102,30 +112,41 @@ const ATTR: &[u8] = b"\0\0\0\0\x40\0\0\0\0\0\0\0\0\0\0\0\0\0\0\0\0\0\0\0\x07\0\0
 
 #[test]
 fn an_attribute_gives_a_configuration(rt: HostRuntime) {
-    let flat = match read_attr(rt.alloc(), ATTR, Dynamic::Little) {
+    match read_attr(rt.alloc(), ATTR, Dynamic::Little) {
         Ok((flat, taken)) => {
-            check_debug(&rt, taken, "64");
-            flat
+            let numbers = numbers_of(&flat);
+            check_debug(&rt, (taken, numbers), "(64, (1, 0, [7, 0, 262144, 0]))");
+            check_debug(&rt, configs_of(&flat), "[Some(true), None]");
         }
         Err(_) => panic!(rt; "refused"),
-    };
+    }
+}
+
+fn numbers_of(flat: &FlatConfig) -> (u32, u32, [u64; 4]) {
     let numbers = [
         flat.sample_type,
         flat.read_format,
         flat.flags,
         flat.branch_sample_type,
     ];
-    check_debug(
-        &rt,
-        (flat.version, flat.order, numbers),
-        "(1, 0, [7, 0, 262144, 0])",
-    );
-    let all = match flat.config() {
-        Some(config) => config.sample_id_all(),
-        None => false,
+    (flat.version, flat.order, numbers)
+}
+
+// Whether each frame ends with a sample id, under a flat configuration, and under the same one of another
+// version, if they are one.
+fn configs_of(flat: &FlatConfig) -> [Option<bool>; 2] {
+    let other = FlatConfig {
+        version: 2,
+        ..*flat
     };
-    let other = FlatConfig { version: 2, ..flat };
-    check_debug(&rt, (all, other.config().is_none()), "(true, true)");
+    [has_ids(flat), has_ids(&other)]
+}
+
+fn has_ids(flat: &FlatConfig) -> Option<bool> {
+    match flat.config() {
+        Some(config) => Some(config.sample_id_all()),
+        None => None,
+    }
 }
 
 #[test]
@@ -133,11 +154,10 @@ fn a_body_is_read_without_its_header(rt: HostRuntime) {
     let config = ParseConfig::<Little>::default();
     let mut frame = blank(&rt);
     let read = read_body(rt.alloc(), &config, 3, 0x2000, &STREAM[8..24], &mut frame);
-    let [first, second, ..] = frame.numbers;
-    let [span, ..] = frame.spans;
+    let numbers = [frame.numbers[0], frame.numbers[1]];
     check_debug(
         &rt,
-        (read, frame.size, [first, second], span),
+        (read, frame.size, numbers, frame.spans[0]),
         "(true, 24, [5, 7], Span { at: 16, len: 2 })",
     );
 }

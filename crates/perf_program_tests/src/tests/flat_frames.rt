@@ -4,7 +4,7 @@ use crate::tests::checks::check_debug;
 use bitflags::Flags;
 use perf_event_data::endian::Little;
 use perf_event_data::parse::ParseConfig;
-use perf_flat::frame::FlatFrame;
+use perf_flat::frame::{FlatFrame, Span};
 use perf_flat::read::{read, read_into};
 use perf_words::SampleFlags;
 use std::alloc::Global;
@@ -36,83 +36,94 @@ const UNNAMED_MAPPING: &[u8] = b"\x0A\0\0\0\0\x40\x50\0\x05\0\0\0\x07\0\0\0\
 const SMALL: &[u8] = b"\x03\0\0\0\0\0\x07\0";
 
 // The header, what was read or why nothing was, the first three numbers and the first span.
-fn parts_of(frame: FlatFrame) -> ([u32; 3], [u32; 3], [u64; 3], [u32; 2]) {
+fn parts_of(frame: &FlatFrame) -> ([u32; 3], [u32; 3], [u64; 3], [u32; 2]) {
     let header = [frame.type_, u32::from(frame.misc), u32::from(frame.size)];
     let answer = [
         frame.read,
         u32::from(frame.refusal),
         u32::from(frame.reason),
     ];
-    let [first, second, third, ..] = frame.numbers;
-    let [span, ..] = frame.spans;
-    (header, answer, [first, second, third], [span.at, span.len])
+    let numbers = [frame.numbers[0], frame.numbers[1], frame.numbers[2]];
+    let span = frame.spans[0];
+    (header, answer, numbers, [span.at, span.len])
 }
 
 // The parts of the flat frame at the front of bytes.
 fn flat_parts(alloc: Global, bytes: &[u8]) -> Option<([u32; 3], [u32; 3], [u64; 3], [u32; 2])> {
     let config = ParseConfig::<Little>::default();
-    Some(parts_of(read(alloc, &config, bytes)?))
+    match read(alloc, &config, bytes) {
+        Some(frame) => Some(parts_of(&frame)),
+        None => None,
+    }
 }
+
+// Frames, also one that is cut, and half a header, and their parts.
+const PARTS: [(&[u8], &str); 5] = [
+    (COMM, "Some(([3, 8192, 24], [3, 0, 0], [5, 7, 0], [16, 2]))"),
+    (
+        NAMESPACES,
+        "Some(([16, 0, 56], [16, 0, 0], [5, 7, 2], [24, 32]))",
+    ),
+    (
+        b"\x03\0\0\0\0\x20\x18\0\x05\0\0\0\x07\0\0\0sh\0\0",
+        "Some(([3, 8192, 24], [0, 1, 0], [0, 0, 0], [0, 0]))",
+    ),
+    (SMALL, "Some(([3, 0, 7], [0, 2, 1], [0, 0, 0], [0, 0]))"),
+    (b"\x03\0\0\0\0\0\x07", "None"),
+];
 
 #[test]
 fn a_flat_frame_has_numbers_and_spans(rt: HostRuntime) {
-    let frames = (
-        flat_parts(rt.alloc(), COMM),
-        flat_parts(rt.alloc(), NAMESPACES),
-        flat_parts(rt.alloc(), &COMM[..20]),
-        flat_parts(rt.alloc(), SMALL),
-        flat_parts(rt.alloc(), &SMALL[..7]),
-    );
-    check_debug(
-        &rt,
-        frames,
-        "(Some(([3, 8192, 24], [3, 0, 0], [5, 7, 0], [16, 2])), \
-         Some(([16, 0, 56], [16, 0, 0], [5, 7, 2], [24, 32])), \
-         Some(([3, 8192, 24], [0, 1, 0], [0, 0, 0], [0, 0])), \
-         Some(([3, 0, 7], [0, 2, 1], [0, 0, 0], [0, 0])), None)",
-    );
+    for &(bytes, want) in &PARTS {
+        check_debug(&rt, flat_parts(rt.alloc(), bytes), want);
+    }
 }
 
 // Where the first two byte strings of a record are.
-fn string_places(alloc: Global, bytes: &[u8]) -> Option<[u32; 4]> {
-    let frame = read(alloc, &ParseConfig::<Little>::default(), bytes)?;
-    let [first, second, ..] = frame.spans;
-    Some([first.at, first.len, second.at, second.len])
+fn string_places(alloc: Global, bytes: &[u8]) -> Option<[Span; 2]> {
+    match read(alloc, &ParseConfig::<Little>::default(), bytes) {
+        Some(frame) => Some([frame.spans[0], frame.spans[1]]),
+        None => None,
+    }
 }
+
+// Records with strings of no bytes, and their places.
+const STRINGS: [(&[u8], &str); 2] = [
+    (
+        UNNAMED,
+        "Some([Span { at: 16, len: 0 }, Span { at: 0, len: 0 }])",
+    ),
+    (
+        UNNAMED_MAPPING,
+        "Some([Span { at: 72, len: 0 }, Span { at: 44, len: 0 }])",
+    ),
+];
 
 #[test]
 fn a_string_of_no_bytes_has_its_place(rt: HostRuntime) {
-    let places = (
-        string_places(rt.alloc(), UNNAMED),
-        string_places(rt.alloc(), UNNAMED_MAPPING),
-    );
-    check_debug(&rt, places, "(Some([16, 0, 0, 0]), Some([72, 0, 44, 0]))");
+    for &(bytes, want) in &STRINGS {
+        check_debug(&rt, string_places(rt.alloc(), bytes), want);
+    }
 }
 
 // Which fields a sample has, its task and its time, its address, and where its lists and raw bytes are.
 fn sample_parts(alloc: Global, bytes: &[u8]) -> Option<([u64; 5], [u32; 4])> {
-    let flags = [
-        SampleFlags::IP,
-        SampleFlags::TID,
-        SampleFlags::TIME,
-        SampleFlags::CALLCHAIN,
-        SampleFlags::RAW,
-    ];
-    let mut bits = 0;
-    for flag in flags {
-        bits |= flag.bits();
+    // IP, TID, TIME, CALLCHAIN and RAW.
+    let sample_type = SampleFlags::from_bits_retain(0x427);
+    let config = ParseConfig::<Little>::default().with_sample_type(sample_type);
+    match read(alloc, &config, bytes) {
+        Some(frame) => Some(parts_of_sample(&frame)),
+        None => None,
     }
-    let config = ParseConfig::<Little>::default().with_sample_type(SampleFlags::from_bits_retain(
-        bits,
-    ));
-    let frame = read(alloc, &config, bytes)?;
-    let [ip, ..] = frame.numbers;
-    let [chain, _, _, _, _, raw, ..] = frame.spans;
+}
+
+fn parts_of_sample(frame: &FlatFrame) -> ([u64; 5], [u32; 4]) {
     let (pid, tid) = (u64::from(frame.pid), u64::from(frame.tid));
-    Some((
-        [frame.present, pid, tid, frame.time, ip],
+    let (chain, raw) = (frame.spans[0], frame.spans[5]);
+    (
+        [frame.present, pid, tid, frame.time, frame.numbers[0]],
         [chain.at, chain.len, raw.at, raw.len],
-    ))
+    )
 }
 
 #[test]
@@ -128,13 +139,13 @@ fn a_frame_is_written_in_place_or_left_as_it_was(rt: HostRuntime) {
         panic!(rt; "no header");
     };
     let absent = read_into(&config, &COMM[..7], &mut frame);
-    let same = parts_of(frame);
+    let same = parts_of(&frame);
     let comm = read_into(&config, COMM, &mut frame);
-    let record = parts_of(frame);
+    let record = parts_of(&frame);
     let small = read_into(&config, SMALL, &mut frame);
     check_debug(
         &rt,
-        ((absent, same), (comm, record), (small, parts_of(frame))),
+        ((absent, same), (comm, record), (small, parts_of(&frame))),
         "((false, ([16, 0, 56], [16, 0, 0], [5, 7, 2], [24, 32])), \
          (true, ([3, 8192, 24], [3, 0, 0], [5, 7, 0], [16, 2])), \
          (true, ([3, 0, 7], [0, 2, 1], [0, 0, 0], [0, 0])))",

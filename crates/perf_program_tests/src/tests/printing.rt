@@ -1,8 +1,8 @@
 //! What is printed of a recording, also if a record is refused, a header is cut or the input fails,
 //! and when lines are written.
 
-use crate::tests::checks::check_same;
-use crate::tests::runs::{PLAIN_64, PLAIN_100, join};
+use crate::tests::checks::{check_bytes, check_same, check_text};
+use crate::tests::runs::{PLAIN_64, PLAIN_100};
 use anyhow::{Result as AnyResult, bail};
 use perf_event_data::endian::Little;
 use perf_event_data::parse::{ParseConfig, ParseResult, Parser};
@@ -55,6 +55,13 @@ const LOST_MMAP2_STACK: &[u8] =
     b"\x02\0\0\0\0\0\x10\0\x01\0\0\0\0\0\0\0\x0A\0\0\0\0\x40\x48\0\x01\0\0\0\x02\0\0\0\0\x10\0\0\
     \0\0\0\0\x20\0\0\0\0\0\0\0\0\0\0\0\0\0\0\0\x15\0\0\0\0\0\0\0\0\0\0\0\0\0\0\0\0\0\0\0\0\0\0\
     \0\x05\0\0\0\x02\0\0\0\x09\0\0\0\0\0\x20\0\x08\0\0\0\0\0\0\0abcdefgh\x09\0\0\0\0\0\0\0";
+
+// Some bytes and others after them.
+fn join(alloc: Global, first: &[u8], second: &[u8]) -> Result<Vec<u8>, AllocError> {
+    let mut bytes = Vec::from_slice(alloc, first)?;
+    bytes.extend_from_slice(second)?;
+    Ok(bytes)
+}
 
 // Marks a byte in a log.
 fn note(log: &Cell<u64>, mark: u64, byte: u8) {
@@ -127,9 +134,8 @@ fn push_named(bytes: &mut Vec<u8>, name: &[u8]) -> Result<(), AllocError> {
     let len = (name.len() / 8).saturating_add(1).saturating_mul(8);
     let size = u16::try_from(len.saturating_add(16)).unwrap_or(u16::MAX);
     let end = bytes.len().saturating_add(usize::from(size));
-    bytes.extend_from_slice(b"\x03\0\0\0\0\0")?;
-    bytes.extend_from_slice(&size.to_le_bytes())?;
-    bytes.extend_from_slice(b"\x01\0\0\0\x02\0\0\0")?;
+    let [low, high] = size.to_le_bytes();
+    bytes.extend_from_slice(&[3, 0, 0, 0, 0, 0, low, high, 1, 0, 0, 0, 2, 0, 0, 0])?;
     bytes.extend_from_slice(name)?;
     bytes.resize(end, 0)?;
     Ok(())
@@ -148,27 +154,35 @@ fn names_that_grow(alloc: Global, count: usize, refused: usize) -> Result<Vec<u8
     Ok(bytes)
 }
 
+// The longest name.
+const LONG: [u8; 60_000] = [b'n'; 60_000];
+
 // An attribute, a COMM record, one with a name of `len` bytes, and one more.
 fn long_name(alloc: Global, len: usize) -> Result<Vec<u8>, AllocError> {
     let mut bytes = join(alloc, &PLAIN_64, COMM)?;
-    let mut name = Vec::new(alloc);
-    name.resize(len, b'n')?;
-    push_named(&mut bytes, name.as_slice())?;
+    push_named(&mut bytes, &LONG[..len.min(LONG.len())])?;
     bytes.extend_from_slice(COMM)?;
     Ok(bytes)
 }
 
-// An attribute that asks for call chains, and samples with these numbers of addresses.
-fn with_chains(alloc: Global, counts: &[u16]) -> Result<Vec<u8>, AllocError> {
+// Appends a sample with so many addresses.
+fn push_chain(bytes: &mut Vec<u8>, count: u16) -> Result<(), AllocError> {
+    let [low, high] = count.to_le_bytes();
+    let [low_size, high_size] = count.saturating_mul(8).saturating_add(16).to_le_bytes();
+    bytes.extend_from_slice(&[
+        9, 0, 0, 0, 0, 0, low_size, high_size, low, high, 0, 0, 0, 0, 0, 0,
+    ])?;
+    for address in 0..count {
+        bytes.extend_from_slice(&u64::from(address).to_le_bytes())?;
+    }
+    Ok(())
+}
+
+// An attribute that asks for call chains, and samples with so many addresses.
+fn with_chains(alloc: Global) -> Result<Vec<u8>, AllocError> {
     let mut bytes = Vec::from_slice(alloc, CHAINS)?;
-    for count in counts {
-        let size = count.saturating_mul(8).saturating_add(16);
-        bytes.extend_from_slice(b"\x09\0\0\0\0\0")?;
-        bytes.extend_from_slice(&size.to_le_bytes())?;
-        bytes.extend_from_slice(&u64::from(*count).to_le_bytes())?;
-        for address in 0..*count {
-            bytes.extend_from_slice(&u64::from(address).to_le_bytes())?;
-        }
+    for count in &[1, 8000, 0, 300] {
+        push_chain(&mut bytes, *count)?;
     }
     Ok(bytes)
 }
@@ -352,55 +366,65 @@ fn text_of_end(alloc: Global, outcome: AnyResult<bool>) -> Result<String, AllocE
     }
 }
 
+// Asserts what is printed of bytes that are read at most `most` at a time.
+fn check_reads(rt: &(impl AllocGlobal + Abort), case: &Printed<'_>, bytes: &[u8], most: usize) {
+    let log = Cell::new(1);
+    let input = Input {
+        log: &log,
+        bytes,
+        most,
+        batches: &[],
+        fault: case.fault,
+    };
+    let (mut output, mut errors) = (Vec::new(rt.alloc()), Vec::new(rt.alloc()));
+    let outcome = print_recording(rt.alloc(), input, &mut output, &mut errors, case.report);
+    check_text(rt, text_of_end(rt.alloc(), outcome), case.end);
+    check_bytes(rt, case.name, &output, case.output);
+    check_bytes(rt, case.name, &errors, case.errors);
+}
+
 // Asserts what is printed of a recording, however many bytes a read gives.
-fn check_printed(rt: &(impl AllocGlobal + Abort), case: &Printed<'_>) -> Result<(), AllocError> {
-    let bytes = join(rt.alloc(), case.attr, case.after)?;
-    for &most in &[1, 7, 8192] {
-        let log = Cell::new(1);
-        let input = Input {
-            log: &log,
-            bytes: bytes.as_slice(),
-            most,
-            batches: &[],
-            fault: case.fault,
-        };
-        let (mut output, mut errors) = (Vec::new(rt.alloc()), Vec::new(rt.alloc()));
-        let outcome = print_recording(rt.alloc(), input, &mut output, &mut errors, case.report);
-        let end = text_of_end(rt.alloc(), outcome)?;
-        let actual = (output.as_slice(), errors.as_slice(), end.as_str());
-        check_same(rt, case.name, actual, (case.output, case.errors, case.end));
+fn check_printed(rt: &(impl AllocGlobal + Abort), case: &Printed<'_>) {
+    match join(rt.alloc(), case.attr, case.after) {
+        Ok(bytes) => {
+            for most in &[1, 7, 8192] {
+                check_reads(rt, case, &bytes, *most);
+            }
+        }
+        Err(_) => panic!(rt; "no memory"),
     }
-    Ok(())
 }
 
 #[test]
-fn recordings_are_printed(rt: HostRuntime) -> Result<(), AllocError> {
+fn recordings_are_printed(rt: HostRuntime) {
     for case in &PRINTED {
-        check_printed(&rt, case)?;
+        check_printed(&rt, case);
     }
-    Ok(())
+}
+
+// A refused record, and 600 others.
+fn early_refusal(alloc: Global) -> Result<Vec<u8>, AllocError> {
+    let tasks = COMM.repeat(alloc, 600)?;
+    join(alloc, SMALL, &tasks)
 }
 
 // A refused record is read with the first 256 frames, and those after them are not refused.
 #[test]
 fn an_early_refusal_is_not_forgotten(rt: HostRuntime) -> Result<(), AllocError> {
-    let mut after = Vec::from_slice(rt.alloc(), SMALL)?;
-    let mut output = Vec::new(rt.alloc());
-    for _ in 0..600 {
-        after.extend_from_slice(COMM)?;
-        output.extend_from_slice(b"comm 1 2 sh\n")?;
-    }
+    let after = early_refusal(rt.alloc())?;
+    let output = b"comm 1 2 sh\n".repeat(rt.alloc(), 600)?;
     let case = Printed {
         name: "an early refusal",
         report: Report::Tasks,
         attr: &PLAIN_64,
-        after: after.as_slice(),
+        after: &after,
         fault: None,
-        output: output.as_slice(),
+        output: &output,
         errors: TOO_SMALL,
         end: "refused",
     };
-    check_printed(&rt, &case)
+    check_printed(&rt, &case);
+    Ok(())
 }
 
 // ---- what is written at a time
@@ -429,78 +453,83 @@ impl Write for Whole {
     }
 }
 
-// The number of writes for the lines of a recording, all of which are of whole lines.
-fn writes_of(rt: &(impl AllocGlobal + Abort), input: &[u8], report: Report) -> usize {
+// The number of writes for the lines of a recording, if all of them are of whole lines.
+fn writes_of(alloc: Global, input: &[u8], report: Report) -> Option<usize> {
     let mut output = Whole {
         writes: 0,
         whole: true,
     };
-    let mut errors = Vec::new(rt.alloc());
-    let outcome = print_recording(rt.alloc(), input, &mut output, &mut errors, report);
-    let actual = (outcome.is_ok(), output.whole);
-    check_same(
-        rt,
-        "it is printed, each write of whole lines",
-        actual,
-        (true, true),
-    );
-    output.writes
+    let mut errors = Vec::new(alloc);
+    let outcome = print_recording(alloc, input, &mut output, &mut errors, report);
+    if outcome.is_ok() && output.whole {
+        Some(output.writes)
+    } else {
+        None
+    }
 }
 
 // Asserts how many writes print what is in an input.
 fn check_writes(
     rt: &(impl AllocGlobal + Abort),
-    what: &str,
-    input: &[u8],
+    input: Result<Vec<u8>, AllocError>,
     report: Report,
     want: usize,
 ) {
-    check_same(rt, what, writes_of(rt, input, report), want);
+    match input {
+        Ok(input) => match writes_of(rt.alloc(), &input, report) {
+            Some(writes) => check_same(rt, "writes", writes, want),
+            None => panic!(rt; "not printed, or not in whole lines"),
+        },
+        Err(_) => panic!(rt; "no memory"),
+    }
 }
 
-// 256 tasks of this name, whose lines have ten bytes more than it.
-fn many_names(alloc: Global, name: &[u8]) -> Result<Vec<u8>, AllocError> {
+// 256 tasks with names of `len` bytes, whose lines have ten bytes more.
+fn many_names(alloc: Global, len: usize) -> Result<Vec<u8>, AllocError> {
     let mut lines = Vec::from_slice(alloc, &PLAIN_64)?;
+    let name = &LONG[..len.min(LONG.len())];
     for _ in 0..256 {
         push_named(&mut lines, name)?;
     }
     Ok(lines)
 }
 
+// Lengths of names, and how many writes print 256 of them. Lines of 64 bytes: 4 times 64 of them are
+// 4,096 bytes. 62 lines of 66 bytes are 4,092 bytes, so that 256 are four times 62 and 8 more.
+const OF_256: [(usize, usize); 2] = [(54, 4), (56, 5)];
+
 #[test]
-fn a_write_is_of_whole_lines(rt: HostRuntime) -> Result<(), AllocError> {
-    // 256 lines of 64 bytes each: 4 times 64 of them are 4,096 bytes.
-    let input = many_names(rt.alloc(), &[b'n'; 54])?;
-    check_writes(&rt, "64 bytes", input.as_slice(), Report::Tasks, 4);
-
-    // 62 lines of 66 bytes are 4,092 bytes, so that 256 are four times 62 and 8 more.
-    let input = many_names(rt.alloc(), &[b'n'; 56])?;
-    check_writes(&rt, "66 bytes", input.as_slice(), Report::Tasks, 5);
-
-    let input = with_chains(rt.alloc(), &[1, 8000, 0, 300])?;
-    check_writes(&rt, "samples", input.as_slice(), Report::Samples, 3);
-    let input = names_that_grow(rt.alloc(), 700, 1_000)?;
-    let writes = writes_of(&rt, input.as_slice(), Report::Tasks);
-    check_same(&rt, "names that grow", writes > 40, true);
-    Ok(())
+fn a_write_is_of_whole_lines(rt: HostRuntime) {
+    for (len, writes) in &OF_256 {
+        check_writes(&rt, many_names(rt.alloc(), *len), Report::Tasks, *writes);
+    }
+    check_writes(&rt, with_chains(rt.alloc()), Report::Samples, 3);
 }
 
 #[test]
-fn a_long_line_has_a_write_of_its_own(rt: HostRuntime) -> Result<(), AllocError> {
-    // Lines of 12 bytes, of 10 more than the name, and of 12 bytes: the second fits with both
-    // others, with the first, with none.
-    for &(len, writes) in &[
-        (4062, 1),
-        (4063, 2),
-        (4074, 2),
-        (4075, 3),
-        (5000, 3),
-        (40_000, 3),
-    ] {
-        let input = long_name(rt.alloc(), len)?;
-        check_writes(&rt, "a long name", input.as_slice(), Report::Tasks, writes);
-    }
+fn names_that_grow_take_many_writes(rt: HostRuntime) -> Result<(), AllocError> {
+    let input = names_that_grow(rt.alloc(), 700, 1_000)?;
+    let writes = writes_of(rt.alloc(), &input, Report::Tasks).unwrap_or(0);
+    check_same(&rt, "more than 40 writes", writes > 40, true);
     Ok(())
+}
+
+// Lengths of a name, and how many writes print it between two others. Lines of 12 bytes, of 10 more
+// than the name, and of 12 bytes: the second fits with both others, with the first, with none.
+const OF_THREE: [(usize, usize); 6] = [
+    (4062, 1),
+    (4063, 2),
+    (4074, 2),
+    (4075, 3),
+    (5000, 3),
+    (40_000, 3),
+];
+
+#[test]
+fn a_long_line_has_a_write_of_its_own(rt: HostRuntime) {
+    for (len, writes) in &OF_THREE {
+        check_writes(&rt, long_name(rt.alloc(), *len), Report::Tasks, *writes);
+    }
 }
 
 // ---- what is written, and when
@@ -570,6 +599,35 @@ fn print_frames(
     Ok(clean)
 }
 
+// A recording that is parsed after its attribute.
+type AfterAttribute<'a> = Parser<BufReader<Input<'a>>, Little>;
+
+// Parses the attribute of a recording.
+fn after_attribute(alloc: Global, input: Input<'_>) -> AnyResult<AfterAttribute<'_>> {
+    let input = BufReader::new(alloc, input)?;
+    let parser = Parser::new(alloc, input, ParseConfig::<Little>::default());
+    match parser.after_attribute() {
+        Ok(parser) => Ok(parser),
+        Err(error) if error.kind().is_of_layout() => bail!("{NO_ATTRIBUTE}"),
+        Err(error) => Err(error.into()),
+    }
+}
+
+// Writes the lines of the next frames, and returns whether none was refused, and whether they are the
+// last.
+fn print_run(
+    alloc: Global,
+    parser: &mut AfterAttribute<'_>,
+    output: &mut Output<'_>,
+    errors: &mut Output<'_>,
+    report: Report,
+) -> AnyResult<(bool, bool)> {
+    let Run { frames, end } = read_records(parser, 256);
+    let printed = print_frames(alloc, output, errors, report, &frames);
+    drop(frames);
+    Ok((printed?, is_last(end)?))
+}
+
 // What `print_recording` does, with each line written by itself.
 fn print_by_lines(
     alloc: Global,
@@ -578,20 +636,12 @@ fn print_by_lines(
     errors: &mut Output<'_>,
     report: Report,
 ) -> AnyResult<bool> {
-    let input = BufReader::new(alloc, input)?;
-    let parser = Parser::new(alloc, input, ParseConfig::<Little>::default());
-    let mut parser = match parser.after_attribute() {
-        Ok(parser) => parser,
-        Err(error) if error.kind().is_of_layout() => bail!("{NO_ATTRIBUTE}"),
-        Err(error) => return Err(error.into()),
-    };
+    let mut parser = after_attribute(alloc, input)?;
     let mut clean = true;
     for _ in 0..u64::MAX {
-        let Run { frames, end } = read_records(&mut parser, 256);
-        let printed = print_frames(alloc, output, errors, report, &frames);
-        drop(frames);
-        clean &= printed?;
-        if is_last(end)? {
+        let (none_refused, is_last) = print_run(alloc, &mut parser, output, errors, report)?;
+        clean &= none_refused;
+        if is_last {
             break;
         }
     }
@@ -619,18 +669,14 @@ struct Case<'a> {
 }
 
 // A digest of which batches are read and of what is written, the capacity left, and how it ended.
-fn outcome_of(
-    alloc: Global,
-    case: Case<'_>,
-    in_batches: bool,
-) -> Result<(u64, usize, usize, String), AllocError> {
+fn outcome_of(alloc: Global, case: &Case<'_>, in_batches: bool) -> Result<String, AllocError> {
     let log = Cell::new(1);
     let batches = batches_of(alloc, case.bytes)?;
     let input = Input {
         log: &log,
         bytes: case.bytes,
         most: 1_000,
-        batches: batches.as_slice(),
+        batches: &batches,
         fault: case.fault,
     };
     let mut output = Output {
@@ -648,104 +694,127 @@ fn outcome_of(
     } else {
         print_by_lines(alloc, input, &mut output, &mut errors, case.report)
     };
-    Ok((
-        log.get(),
-        output.room,
-        errors.room,
-        text_of_end(alloc, outcome)?,
-    ))
+    let mut text = text_of_end(alloc, outcome)?;
+    write!(text, " {:?}", (log.get(), output.room, errors.room))?;
+    Ok(text)
 }
 
 // Asserts that lines that are written together are written as if each were alone: the same bytes in
 // the same order, on both outputs, before the same batch is read, also if one fails, and with the
 // same error.
-fn check_gathered(rt: &(impl AllocGlobal + Abort), case: Case<'_>) -> Result<(), AllocError> {
-    let in_batches = outcome_of(rt.alloc(), case, true)?;
-    let by_lines = outcome_of(rt.alloc(), case, false)?;
-    let actual = (
-        in_batches.0,
-        in_batches.1,
-        in_batches.2,
-        in_batches.3.as_str(),
-    );
-    let want = (by_lines.0, by_lines.1, by_lines.2, by_lines.3.as_str());
-    check_same(rt, "what goes out", actual, want);
-    Ok(())
+fn check_gathered(rt: &(impl AllocGlobal + Abort), case: &Case<'_>) {
+    match outcome_of(rt.alloc(), case, false) {
+        Ok(by_lines) => check_text(rt, outcome_of(rt.alloc(), case, true), &by_lines),
+        Err(_) => panic!(rt; "no memory"),
+    }
 }
 
-const ROOMS: [usize; 6] = [usize::MAX, 0, 1_000, 4_096, 33_000, 80_000];
+// Capacities of the output, and of that of the errors.
+const ROOMS: [(usize, usize); 11] = [
+    (usize::MAX, usize::MAX),
+    (0, usize::MAX),
+    (1_000, usize::MAX),
+    (4_096, usize::MAX),
+    (33_000, usize::MAX),
+    (80_000, usize::MAX),
+    (usize::MAX, 0),
+    (usize::MAX, 1_000),
+    (usize::MAX, 4_096),
+    (usize::MAX, 33_000),
+    (usize::MAX, 80_000),
+];
 
-// Asserts it for all capacities, and for an input that fails or is cut.
+// Asserts it for all capacities.
+fn check_rooms(rt: &(impl AllocGlobal + Abort), bytes: &[u8], report: Report) {
+    for (room, errors) in &ROOMS {
+        let case = Case {
+            bytes,
+            report,
+            fault: None,
+            room: *room,
+            errors: *errors,
+        };
+        check_gathered(rt, &case);
+    }
+}
+
+// How many bytes an input is cut by, and how it fails after those that are left.
+const CUTS: [(usize, Option<io::ErrorKind>); 4] = [
+    (0, Some(io::ErrorKind::Other)),
+    (3, None),
+    (3, Some(io::ErrorKind::Other)),
+    (21, None),
+];
+
+// Asserts it for an input that fails or is cut.
+fn check_cuts(rt: &(impl AllocGlobal + Abort), bytes: &[u8], report: Report) {
+    for (cut, fault) in &CUTS {
+        let case = Case {
+            bytes: &bytes[..bytes.len().saturating_sub(*cut)],
+            report,
+            fault: *fault,
+            room: usize::MAX,
+            errors: usize::MAX,
+        };
+        check_gathered(rt, &case);
+    }
+}
+
+// Asserts it for all of these.
 fn check_orders(
     rt: &(impl AllocGlobal + Abort),
-    bytes: &[u8],
+    input: Result<Vec<u8>, AllocError>,
     report: Report,
-) -> Result<(), AllocError> {
-    let whole = Case {
-        bytes,
-        report,
-        fault: None,
-        room: usize::MAX,
-        errors: usize::MAX,
-    };
-    for &room in &ROOMS {
-        check_gathered(rt, Case { room, ..whole })?;
-        check_gathered(
-            rt,
-            Case {
-                errors: room,
-                ..whole
-            },
-        )?;
+) {
+    match input {
+        Ok(bytes) => {
+            check_rooms(rt, &bytes, report);
+            check_cuts(rt, &bytes, report);
+        }
+        Err(_) => panic!(rt; "no memory"),
     }
-    for &(cut, fault) in &[(0, true), (3, false), (3, true), (21, false)] {
-        let case = Case {
-            bytes: &bytes[..bytes.len().saturating_sub(cut)],
-            fault: fault.then_some(io::ErrorKind::Other),
-            ..whole
-        };
-        check_gathered(rt, case)?;
-    }
-    Ok(())
 }
 
 #[test]
-fn lines_go_out_in_order(rt: HostRuntime) -> Result<(), AllocError> {
-    for &count in &[0, 1, 300, 700] {
-        for &refused in &[7, 1_000] {
-            let input = names_that_grow(rt.alloc(), count, refused)?;
-            check_orders(&rt, input.as_slice(), Report::Tasks)?;
+fn lines_go_out_in_order(rt: HostRuntime) {
+    for count in &[0, 1, 300, 700] {
+        for refused in &[7, 1_000] {
+            let input = names_that_grow(rt.alloc(), *count, *refused);
+            check_orders(&rt, input, Report::Tasks);
         }
     }
-    Ok(())
 }
 
 #[test]
-fn long_lines_go_out_in_order(rt: HostRuntime) -> Result<(), AllocError> {
-    for &len in &[4_074, 4_075, 5_000, 40_000, 60_000] {
-        let input = long_name(rt.alloc(), len)?;
-        check_orders(&rt, input.as_slice(), Report::Tasks)?;
+fn long_lines_go_out_in_order(rt: HostRuntime) {
+    for len in &[4_074, 4_075, 5_000, 40_000, 60_000] {
+        check_orders(&rt, long_name(rt.alloc(), *len), Report::Tasks);
     }
-    let input = with_chains(rt.alloc(), &[1, 8000, 0, 300])?;
-    check_orders(&rt, input.as_slice(), Report::Samples)
+    check_orders(&rt, with_chains(rt.alloc()), Report::Samples);
 }
 
-#[test]
-fn escaped_names_go_out_in_order(rt: HostRuntime) -> Result<(), AllocError> {
-    let mut input = Vec::from_slice(rt.alloc(), &PLAIN_64)?;
-    for &name in &[
-        b"sh\nexit 1".as_slice(),
-        b"a\xffb",
-        b"\x1b[2J",
-        b"\\",
-        b"\xc3\xa9",
-        b"\xc2\x85",
-    ] {
-        push_named(&mut input, name)?;
+// Names that are escaped.
+const ESCAPED: [&[u8]; 6] = [
+    b"sh\nexit 1",
+    b"a\xffb",
+    b"\x1b[2J",
+    b"\\",
+    b"\xc3\xa9",
+    b"\xc2\x85",
+];
+
+// Tasks of these names, each before a refused record.
+fn escaped_names(alloc: Global) -> Result<Vec<u8>, AllocError> {
+    let mut input = Vec::from_slice(alloc, &PLAIN_64)?;
+    for name in &ESCAPED {
+        push_named(&mut input, *name)?;
         input.extend_from_slice(SMALL)?;
     }
-    check_orders(&rt, input.as_slice(), Report::Tasks)?;
-    let mut refused = Vec::from_slice(rt.alloc(), &PLAIN_100)?;
-    refused.extend_from_slice(COMM)?;
-    check_orders(&rt, refused.as_slice(), Report::Tasks)
+    Ok(input)
+}
+
+#[test]
+fn escaped_names_go_out_in_order(rt: HostRuntime) {
+    check_orders(&rt, escaped_names(rt.alloc()), Report::Tasks);
+    check_orders(&rt, join(rt.alloc(), &PLAIN_100, COMM), Report::Tasks);
 }

@@ -2,13 +2,12 @@
 
 ghost use Rattle.std.specs.Prelude.{◌<◌};
 
-use crate::tests::checks::check_same;
-use crate::tests::runs::{PLAIN_72, TEXT, join};
+use crate::tests::checks::{check_same, check_written};
+use crate::tests::runs::{TEXT, TWO_AFTER_72};
 use perf_event_data::endian::Little;
 use perf_lines::outcome::Outcome;
 use perf_lines::run::run;
 use perf_test_inputs::bytes::TWO;
-use std::alloc::AllocError;
 use std::cell::Cell;
 use std::io;
 use std::io::Read;
@@ -47,17 +46,14 @@ fn check_piece(rt: &(impl AllocGlobal + Abort), bytes: &[u8], with_attr: bool, p
         with_attr,
         piece,
     );
-    let actual = (output.as_slice(), end, longest.get());
-    let want = (TEXT.as_bytes(), Outcome::Clean, piece);
-    check_same(rt, "what is written, and the longest piece", actual, want);
+    check_written(rt, (&output, end), (TEXT.as_bytes(), Outcome::Clean));
+    check_same(rt, "the longest piece", longest.get(), piece);
 }
 
 #[test]
-fn a_reader_fills_a_piece_at_a_time(rt: HostRuntime) -> Result<(), AllocError> {
-    let with_attr = join(rt.alloc(), &PLAIN_72, &TWO)?;
+fn a_reader_fills_a_piece_at_a_time(rt: HostRuntime) {
     for &piece in &[1usize, 7, 8192] {
         check_piece(&rt, &TWO, false, piece.max(1));
-        check_piece(&rt, &with_attr, true, piece.max(1));
+        check_piece(&rt, &TWO_AFTER_72, true, piece.max(1));
     }
-    Ok(())
 }

@@ -1,10 +1,9 @@
 //! Streams, and what a run over them writes.
 
-use crate::tests::checks::check_same;
+use crate::tests::checks::check_written;
 use perf_event_data::endian::Endian;
 use perf_lines::outcome::Outcome;
 use perf_lines::run::run;
-use std::alloc::{AllocError, Global};
 use std::io::Read;
 use std::process::Abort;
 
@@ -27,13 +26,6 @@ pub const PLAIN_64: [u8; 64] = [
     0,
 ];
 
-/// One of 72 bytes.
-pub const PLAIN_72: [u8; 72] = [
-    0, 0, 0, 0, 72, 0, 0, 0, 0, 0, 0, 0, 0, 0, 0, 0, 0, 0, 0, 0, 0, 0, 0, 0, 0, 0, 0, 0, 0, 0, 0,
-    0, 0, 0, 0, 0, 0, 0, 0, 0, 0, 0, 0, 0, 0, 0, 0, 0, 0, 0, 0, 0, 0, 0, 0, 0, 0, 0, 0, 0, 0, 0, 0,
-    0, 0, 0, 0, 0, 0, 0, 0, 0,
-];
-
 /// One of 100 bytes, which no attribute has.
 pub const PLAIN_100: [u8; 100] = [
     0, 0, 0, 0, 100, 0, 0, 0, 0, 0, 0, 0, 0, 0, 0, 0, 0, 0, 0, 0, 0, 0, 0, 0, 0, 0, 0, 0, 0, 0, 0,
@@ -42,12 +34,20 @@ pub const PLAIN_100: [u8; 100] = [
     0, 0, 0, 0, 0,
 ];
 
-/// Some bytes and others after them.
-pub fn join(alloc: Global, first: &[u8], second: &[u8]) -> Result<Vec<u8>, AllocError> {
-    let mut bytes = Vec::from_slice(alloc, first)?;
-    bytes.extend_from_slice(second)?;
-    Ok(bytes)
-}
+/// That of 64 bytes, and one record of five lost samples.
+pub const ONE_AFTER_64: [u8; 80] = [
+    0, 0, 0, 0, 64, 0, 0, 0, 0, 0, 0, 0, 0, 0, 0, 0, 0, 0, 0, 0, 0, 0, 0, 0, 0, 0, 0, 0, 0, 0, 0,
+    0, 0, 0, 0, 0, 0, 0, 0, 0, 0, 0, 0, 0, 0, 0, 0, 0, 0, 0, 0, 0, 0, 0, 0, 0, 0, 0, 0, 0, 0, 0, 0,
+    0, 13, 0, 0, 0, 0, 0, 16, 0, 5, 0, 0, 0, 0, 0, 0, 0,
+];
+
+/// That of 72 bytes, and two such records.
+pub const TWO_AFTER_72: [u8; 104] = [
+    0, 0, 0, 0, 72, 0, 0, 0, 0, 0, 0, 0, 0, 0, 0, 0, 0, 0, 0, 0, 0, 0, 0, 0, 0, 0, 0, 0, 0, 0, 0,
+    0, 0, 0, 0, 0, 0, 0, 0, 0, 0, 0, 0, 0, 0, 0, 0, 0, 0, 0, 0, 0, 0, 0, 0, 0, 0, 0, 0, 0, 0, 0, 0,
+    0, 0, 0, 0, 0, 0, 0, 0, 0, 13, 0, 0, 0, 0, 0, 16, 0, 5, 0, 0, 0, 0, 0, 0, 0, 13, 0, 0, 0, 0, 0,
+    16, 0, 5, 0, 0, 0, 0, 0, 0, 0,
+];
 
 /// The arguments of a run, what it writes and how it ends.
 #[derive(Copy, Clone)]
@@ -79,7 +79,6 @@ pub fn check_run<R: Read + Copy, E: Endian + Copy>(
             with_attr,
             piece,
         );
-        let want = (case.text.as_bytes(), case.outcome);
-        check_same(rt, "what is written", (output.as_slice(), end), want);
+        check_written(rt, (&output, end), (case.text.as_bytes(), case.outcome));
     }
 }

@@ -14,6 +14,16 @@ use perf_text::order::OrderName;
 use std::alloc::{AllocError, Global};
 use std::process::Abort;
 
+// The text of `count` frames of a header alone, and its last line.
+fn text_of_many(alloc: Global, count: usize, end: &str) -> Result<String, AllocError> {
+    let mut text = String::new(alloc);
+    for index in 0..count {
+        write!(text, "{index} 22 0 8 Unknown data=\n")?;
+    }
+    text.push_str(end)?;
+    Ok(text)
+}
+
 // Asserts the text of `count` frames of a header alone for a limit.
 fn check_many(
     rt: &(impl AllocGlobal + Abort),
@@ -21,15 +31,8 @@ fn check_many(
     limit: usize,
     end: &str,
 ) -> Result<(), AllocError> {
-    let mut input = Vec::new(rt.alloc());
-    let mut text = String::new(rt.alloc());
-    for index in 0..count {
-        input.extend_from_slice(&[22, 0, 0, 0, 0, 0, 8, 0])?;
-        if index < limit {
-            writeln(&mut text, rt.alloc(), index)?;
-        }
-    }
-    text.push_str(end)?;
+    let text = text_of_many(rt.alloc(), count.min(limit), end)?;
+    let input = [22, 0, 0, 0, 0, 0, 8, 0].repeat(rt.alloc(), count)?;
     let case = RunCase {
         limit,
         with_attr: false,
@@ -38,11 +41,6 @@ fn check_many(
     };
     check_run(rt, input.as_slice(), Little, case);
     Ok(())
-}
-
-fn writeln(text: &mut String, alloc: Global, index: usize) -> Result<(), AllocError> {
-    let line = format!(in alloc; "{index} 22 0 8 Unknown data=\n")?;
-    text.push_str(&line)
 }
 
 const DONE: &str = "end done\n";
@@ -66,14 +64,15 @@ fn frames_are_numbered_on_from_batch_to_batch(rt: HostRuntime) -> Result<(), All
     Ok(())
 }
 
-// The line of a frame with this header and this result.
-fn text_of_line(
-    alloc: Global,
-    index: usize,
-    header: perf_event_header,
-    answer: ParseResult<Record>,
-) -> ParseResult<String> {
-    let line = line_of(alloc, index, &header, &answer);
+// The line of a frame that is refused by an error of this kind.
+fn text_of_line(alloc: Global, kind: ErrorKind) -> ParseResult<String> {
+    let header = perf_event_header {
+        type_: 1,
+        misc: 2,
+        size: 3,
+    };
+    let answer: ParseResult<Record<'_>> = Err(ParseError::custom(kind, "why"));
+    let line = line_of(alloc, 7, &header, &answer);
     drop(answer);
     line
 }
@@ -97,30 +96,27 @@ const KINDS: [(ErrorKind, &str); 6] = [
 #[test]
 fn each_kind_has_its_name(rt: HostRuntime) -> ParseResult<()> {
     for &(kind, text) in &KINDS {
-        let header = perf_event_header {
-            type_: 1,
-            misc: 2,
-            size: 3,
-        };
-        let answer = Err(ParseError::custom(kind, "why"));
-        let line = text_of_line(rt.alloc(), 7, header, answer)?;
+        let line = text_of_line(rt.alloc(), kind)?;
         check_same(&rt, "the line", line.as_str(), text);
     }
     Ok(())
 }
 
-// Asserts what arguments ask for.
-fn check_command(
-    rt: &(impl AllocGlobal + Abort),
-    words: &[&str],
-    want: Option<Command>,
-) -> Result<(), AllocError> {
-    let mut owned = Vec::new(rt.alloc());
+// Arguments.
+fn owned(alloc: Global, words: &[&str]) -> Result<Vec<String>, AllocError> {
+    let mut owned = Vec::new(alloc);
     for word in words {
-        owned.push(String::from_str(rt.alloc(), word)?)?;
+        owned.push(String::from_str(alloc, word)?)?;
     }
-    check_same(rt, "what is asked", command(&owned), want);
-    Ok(())
+    Ok(owned)
+}
+
+// Asserts what arguments ask for.
+fn check_command(rt: &(impl AllocGlobal + Abort), words: &[&str], want: Option<Command>) {
+    match owned(rt.alloc(), words) {
+        Ok(words) => check_same(rt, "what is asked", command(&words), want),
+        Err(_) => panic!(rt; "no memory"),
+    }
 }
 
 const COMMANDS: [(&str, &str, OrderName, usize); 7] = [
@@ -149,21 +145,20 @@ const COMMANDS: [(&str, &str, OrderName, usize); 7] = [
 ];
 
 #[test]
-fn an_order_and_a_limit_are_a_command(rt: HostRuntime) -> Result<(), AllocError> {
-    for (name, digits, order, limit) in COMMANDS {
-        for (with_attr, words) in [
-            (false, [name, digits].as_slice()),
-            (true, [name, digits, "attr"].as_slice()),
-        ] {
-            let want = Command {
-                order,
-                limit,
-                with_attr,
-            };
-            check_command(&rt, words, Some(want))?;
-        }
+fn an_order_and_a_limit_are_a_command(rt: HostRuntime) {
+    for &(name, digits, order, limit) in &COMMANDS {
+        let want = Command {
+            order,
+            limit,
+            with_attr: false,
+        };
+        check_command(&rt, &[name, digits], Some(want));
+        let want = Command {
+            with_attr: true,
+            ..want
+        };
+        check_command(&rt, &[name, digits, "attr"], Some(want));
     }
-    Ok(())
 }
 
 // Arguments that are no command: too few, names that are no byte order, digits that are no limit or
@@ -234,11 +229,10 @@ const NO_COMMANDS: [&[&str]; 62] = [
 ];
 
 #[test]
-fn other_words_are_no_command(rt: HostRuntime) -> Result<(), AllocError> {
-    for words in NO_COMMANDS {
-        check_command(&rt, words, None)?;
+fn other_words_are_no_command(rt: HostRuntime) {
+    for words in &NO_COMMANDS {
+        check_command(&rt, *words, None);
     }
-    Ok(())
 }
 
 const STATUSES: [(Outcome, u8); 5] = [

@@ -1,14 +1,16 @@
 //! What a parser over every buffer is asked for, and its results as text.
 
 use crate::tests::bodies::{Body, text_of_frame};
-use crate::tests::checks::check_answer;
+use crate::tests::checks::check_named;
 use crate::tests::orders::{OrderRequest, text_by_order};
 use crate::tests::own_types::{Own, text_of_own};
 use crate::tests::visits::{Gives, text_of_visits};
+use perf_event_data::PieceBuf;
 use perf_event_data::endian::Little;
 use perf_event_data::parse::{ErrorKind, ParseBuf, ParseConfig, ParseResult, Parser};
-use perf_event_data::{PieceBuf, RunEnd, read_records};
-use std::alloc::Global;
+use perf_test_helpers::everywhere::{Buffer, Question, text_everywhere};
+use perf_test_helpers::over_buffer;
+use std::alloc::{AllocError, Global};
 use std::io::BufReader;
 use std::process::Abort;
 
@@ -34,6 +36,22 @@ pub struct Case<'a> {
     pub want: &'a str,
 }
 
+// The result of a parser in little endian.
+fn text_of_little<'p, B: ParseBuf<'p> + Drop>(
+    alloc: Global,
+    buf: B,
+    request: Request,
+) -> ParseResult<String> {
+    let mut parser: Parser<B, Little> = Parser::new(alloc, buf, ParseConfig::default());
+    let text = match request {
+        Request::Own(own) => text_of_own(alloc, &mut parser, own),
+        Request::Body(body) => text_of_frame(alloc, &mut parser, body),
+        _ => Ok(String::from_str(alloc, "no request")?),
+    };
+    drop(parser);
+    text
+}
+
 // The result of a parser over a buffer, in little endian if the case has no order of its own.
 fn text_of_case<'p, B: ParseBuf<'p> + Drop>(
     alloc: Global,
@@ -41,44 +59,36 @@ fn text_of_case<'p, B: ParseBuf<'p> + Drop>(
     request: Request,
 ) -> ParseResult<String> {
     match request {
-        Request::Own(own) => text_of_own(alloc, &mut little(alloc, buf), own),
-        Request::Body(body) => text_of_frame(alloc, &mut little(alloc, buf), body),
         Request::InOrder(request) => text_by_order(alloc, buf, request),
         Request::Visited(visits) => Ok(text_of_visits(alloc, buf, visits)?),
+        _ => text_of_little(alloc, buf, request),
     }
 }
 
-fn little<'p, B: ParseBuf<'p>>(alloc: Global, buf: B) -> Parser<B, Little> {
-    Parser::new(alloc, buf, ParseConfig::default())
+impl Case<'_> {
+    // The result, or the text of its error.
+    fn text_of<'p, B: ParseBuf<'p> + Drop>(
+        &self,
+        alloc: Global,
+        buf: B,
+    ) -> Result<String, AllocError> {
+        match text_of_case(alloc, buf, self.request) {
+            Ok(text) => Ok(text),
+            Err(error) => format!(in alloc; "{error}"),
+        }
+    }
 }
 
-fn check_over<'p, B: ParseBuf<'p> + Drop>(
-    rt: &(impl AllocGlobal + Abort),
-    buf: B,
-    case: &Case<'_>,
-) {
-    check_answer(
-        rt,
-        case.name,
-        text_of_case(rt.alloc(), buf, case.request),
-        case.want,
-    );
+impl Question for Case<'_> {
+    fn text_over(&self, alloc: Global, bytes: &[u8], buffer: Buffer) -> Result<String, AllocError> {
+        over_buffer!(self, alloc, bytes, buffer)
+    }
 }
 
 /// Asserts the result over a slice, buffered readers and pieces.
 pub fn check_case(rt: &(impl AllocGlobal + Abort), case: &Case<'_>) {
-    check_over(rt, case.bytes, case);
-    for &capacity in &[1, 7, 8192] {
-        match BufReader::with_capacity(rt.alloc(), capacity, case.bytes) {
-            Ok(reader) => check_over(rt, reader, case),
-            Err(_) => panic!(rt; "no memory"),
-        }
-    }
-    for &most in &[1, 3, 7, 64] {
-        for &borrowed in &[true, false] {
-            check_over(rt, PieceBuf::new(case.bytes, most, borrowed), case);
-        }
-    }
+    let actual = text_everywhere(rt.alloc(), case.bytes, case);
+    check_named(rt, case.name, actual, case.want);
 }
 
 /// Asserts the result of each case.
@@ -86,18 +96,6 @@ pub fn check_cases(rt: &(impl AllocGlobal + Abort), cases: &[Case<'_>]) {
     for case in cases {
         check_case(rt, case);
     }
-}
-
-/// The kind of the fault that ends a run over a buffer, and whether it has a cause.
-pub fn fault_of<'p, B: ParseBuf<'p> + Drop>(alloc: Global, buf: B) -> Option<(ErrorKind, bool)> {
-    let mut parser = little(alloc, buf);
-    let run = read_records(&mut parser, 10);
-    let found = match &run.end {
-        RunEnd::Fault(error) => Some((error.kind(), error.cause().is_some())),
-        _ => None,
-    };
-    drop(run);
-    found
 }
 
 /// The kind of an error.

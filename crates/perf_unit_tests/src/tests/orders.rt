@@ -2,6 +2,7 @@
 
 use crate::tests::cases::{Case, Request, check_case, check_cases, kind_of};
 use crate::tests::checks::check_answer;
+use crate::tests::lines::Perfrec;
 use perf_base::endian::{Dynamic, Endian, Little, Native};
 use perf_base::sys::perf_event_header;
 use perf_base::{ParseConfig, ParseResult};
@@ -58,7 +59,7 @@ fn text_of_refused_body<'p, B: ParseBuf<'p> + Drop>(alloc: Global, buf: B) -> Pa
 // Two runs.
 fn text_of_single<'p, B: ParseBuf<'p> + Drop>(alloc: Global, buf: B) -> ParseResult<String> {
     let calls = Cell::new(0);
-    Ok(text_of_runs(alloc, buf, Counting::single(&calls), &[10, 10])?)
+    Ok(text_of_runs(alloc, &Perfrec, buf, Counting::single(&calls), &[10, 10])?)
 }
 
 fn text_of_count<'p, B: ParseBuf<'p> + Drop>(
@@ -67,7 +68,7 @@ fn text_of_count<'p, B: ParseBuf<'p> + Drop>(
     most: u64,
 ) -> ParseResult<String> {
     let calls = Cell::new(0);
-    let text = text_of_runs(alloc, buf, Counting::new(&calls), &[1])?;
+    let text = text_of_runs(alloc, &Perfrec, buf, Counting::new(&calls), &[1])?;
     let is_within = calls.get() >= 1 && calls.get() <= most;
     Ok(format!(in alloc; "{text}, {is_within}")?)
 }
@@ -79,7 +80,13 @@ pub fn text_by_order<'p, B: ParseBuf<'p> + Drop>(
     request: OrderRequest,
 ) -> ParseResult<String> {
     match request {
-        OrderRequest::Words(added) => Ok(text_of_runs(alloc, buf, Words { added }, &[10])?),
+        OrderRequest::Words(added) => Ok(text_of_runs(
+            alloc,
+            &Perfrec,
+            buf,
+            Words { added },
+            &[10],
+        )?),
         OrderRequest::Single => text_of_single(alloc, buf),
         OrderRequest::Body => text_of_refused_body(alloc, buf),
         OrderRequest::Count(most) => text_of_count(alloc, buf, most),

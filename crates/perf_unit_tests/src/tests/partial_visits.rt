@@ -7,7 +7,7 @@ use perf_event_data::{
     LostSamples, Mmap, Mmap2, Namespaces, PartialVisitor, Read, RecordMetadata, Sample,
     SwitchCpuWide, TextPoke, Throttle,
 };
-use perf_test_helpers::texts::WriteText;
+use perf_test_helpers::texts::{WriteText, drop_sample};
 use std::alloc::AllocError;
 use std::cell::Cell;
 
@@ -62,7 +62,7 @@ impl PartialVisitor for OwnCalls {
     }
 
     fn visit_sample(self, content: Sample<'_>, _metadata: RecordMetadata) -> Self::Output {
-        drop(content);
+        drop_sample(content);
         "sample"
     }
 

@@ -1,22 +1,26 @@
 //! Single values.
 
-use crate::check;
-use crate::tests::checks::{check_debug, check_text};
+use crate::tests::checks::check_text;
+use crate::tests::lines::Perfrec;
 use perf_event_data::sys::{
     PERF_RECORD_EXIT, PERF_RECORD_FORK, PERF_RECORD_LOST, PERF_RECORD_LOST_SAMPLES,
 };
-use perf_event_data::{Sample, SampleFields};
-use perf_records::record::Record;
-use perf_test_helpers::texts::write_record;
-use perf_types::{Lost, LostSamples};
+use perf_event_data::{Lost, LostSamples, Record, Sample, SampleFields};
+use perf_test_helpers::runs::write_debug_record;
+use perf_test_helpers::texts::write_last_record;
 use std::alloc::{AllocError, Global};
+
+fn text_of_records(alloc: Global) -> Result<String, AllocError> {
+    let mut text = String::new(alloc);
+    write_debug_record(&mut text, Ok(Record::from(Lost { id: 1, lost: 2 })))?;
+    write_debug_record(&mut text, Ok(Record::from(LostSamples { lost: 3 })))?;
+    Ok(text)
+}
 
 #[test]
 fn a_record_is_made_from_what_it_holds(rt: HostRuntime) {
-    let lost = Record::from(Lost { id: 1, lost: 2 });
-    check_debug(&rt, lost, "Lost(Lost { id: 1, lost: 2 })");
-    let samples = Record::from(LostSamples { lost: 3 });
-    check_debug(&rt, samples, "LostSamples(LostSamples { lost: 3 })");
+    let want = "Lost(Lost { id: 1, lost: 2 }); LostSamples(LostSamples { lost: 3 }); ";
+    check_text(&rt, text_of_records(rt.alloc()), want);
 }
 
 // A sample of a process and a CPU.
@@ -26,7 +30,7 @@ fn text_of_sample(alloc: Global) -> Result<String, AllocError> {
     fields.cpu = Some(6);
     let mut text = String::new(alloc);
     let answer = Record::from_sample(alloc, Sample::from_fields(fields));
-    write_record(&mut text, &answer)?;
+    write_last_record(&mut text, &Perfrec, answer)?;
     Ok(text)
 }
 
@@ -43,5 +47,5 @@ fn types_have_the_numbers_of_the_kernel(rt: HostRuntime) {
         PERF_RECORD_FORK,
         PERF_RECORD_LOST_SAMPLES,
     ];
-    check!(rt; numbers, [2, 4, 7, 13]);
+    check_text(&rt, format!(in rt.alloc(); "{numbers:?}"), "[2, 4, 7, 13]");
 }

@@ -1,15 +1,17 @@
 //! Visits of frames.
 
 use crate::tests::cases::{Case, Request, check_case};
+use crate::tests::lines::Perfrec;
 use crate::tests::partial_visits::{Mappings, OwnCalls};
 use bitflags::Flags;
-use perf_event_data::endian::{Endian, Little, Native};
-use perf_event_data::parse::{ParseBuf, ParseConfig, ParseResult, Parser};
+use perf_event_data::endian::{Endian, Little};
+use perf_event_data::parse::{ParseBuf, Parser};
 use perf_event_data::sys::perf_event_attr;
 use perf_event_data::{Partial, RecordVisitor, SampleFlags};
 use perf_test_helpers::attributes::ids_attribute;
+use perf_test_helpers::everywhere::parser_of;
 use perf_test_helpers::frames::{BY_BUILD_ID, zero_frames};
-use perf_test_helpers::texts::{WriteText, write_error};
+use perf_test_helpers::texts::{write_output, write_visited};
 use std::alloc::{AllocError, Global};
 use std::cell::Cell;
 use std::test::Fail;
@@ -45,24 +47,6 @@ impl Gives {
     }
 }
 
-// Writes what is made of a frame, and returns whether it was not refused.
-fn write_output<T: WriteText + Drop>(
-    text: &mut String,
-    answer: ParseResult<T>,
-) -> Result<bool, AllocError> {
-    match answer {
-        Ok(output) => {
-            output.write_text(text)?;
-            text.push_str("; ")?;
-            Ok(true)
-        }
-        Err(error) => {
-            write_error(text, &error)?;
-            Ok(false)
-        }
-    }
-}
-
 // Writes what a visitor makes of the next frame, and returns whether it was not refused.
 fn write_visit<'p, B: ParseBuf<'p>, E: Endian>(
     alloc: Global,
@@ -77,9 +61,31 @@ fn write_visit<'p, B: ParseBuf<'p>, E: Endian>(
             write_output(text, parser.parse_record(Partial(Mappings { visits })))
         }
         Gives::Records | Gives::TimedRecords => {
-            write_output(text, parser.parse_record(RecordVisitor::new(alloc)))
+            write_visited(
+                text,
+                &Perfrec,
+                parser.parse_record(RecordVisitor::new(alloc)),
+            )
         }
     }
+}
+
+fn write_visits<'p, B: ParseBuf<'p>>(
+    alloc: Global,
+    text: &mut String,
+    parser: &mut Parser<B, Little>,
+    visitor: Gives,
+    visits: &Cell<u32>,
+) -> Result<(), AllocError> {
+    for _ in 0..100 {
+        if !write_visit(alloc, text, parser, visitor, visits)? {
+            break;
+        }
+    }
+    if visitor.are_counted() {
+        write!(text, ", {}", visits.get())?;
+    }
+    Ok(())
 }
 
 /// What a visitor makes of each frame, until one is refused.
@@ -88,18 +94,12 @@ pub fn text_of_visits<'p, B: ParseBuf<'p> + Drop>(
     buf: B,
     visitor: Gives,
 ) -> Result<String, AllocError> {
-    let config = ParseConfig::<Native>::from(visitor.attr()).with_endian(Little);
-    let mut parser = Parser::new(alloc, buf, config);
+    let mut parser = parser_of(alloc, buf, Little, &visitor.attr());
     let mut text = String::new(alloc);
     let visits = Cell::new(0);
-    for _ in 0..100 {
-        if !write_visit(alloc, &mut text, &mut parser, visitor, &visits)? {
-            break;
-        }
-    }
-    if visitor.are_counted() {
-        write!(&mut text, ", {}", visits.get())?;
-    }
+    let written = write_visits(alloc, &mut text, &mut parser, visitor, &visits);
+    drop(parser);
+    written?;
     Ok(text)
 }
 

@@ -5,9 +5,10 @@ use crate::tests::checks::check_parsed_text;
 use crate::tests::groups::{of_none, single_with_id, with_ids, without_ids};
 use bitflags::Flags;
 use perf_base::{CowSlice, ParseResult};
+use perf_counters::ReadGroup;
 use perf_sample_types::registers::Registers;
 use perf_types::{
-    CGroup, Comm, KSymbol, Mmap, Mmap2, MmapDetail, NamespaceEntry, Namespaces, ReadGroup, TextPoke,
+    CGroup, Comm, KSymbol, Mmap, Mmap2, MmapDetail, NamespaceEntry, Namespaces, TextPoke,
 };
 use perf_words::flags::KSymbolFlags;
 use perf_words::named::KSymbolType;
@@ -192,23 +193,36 @@ fn write_value<T: CloneText>(text: &mut String, value: &T) -> Result<(), AllocEr
     text.push_str("\n")
 }
 
+// Writes a value, and lets go of it.
+fn write_last<T: CloneText>(text: &mut String, value: T) -> ParseResult<()> {
+    let written = write_value(text, &value);
+    drop(value);
+    Ok(written?)
+}
+
 // Writes a value and its clone.
 fn write_with_clone<T: CloneText>(text: &mut String, alloc: Global, value: &T) -> ParseResult<()> {
     write_value(text, value)?;
-    let copy = value.clone_copy(alloc)?;
-    Ok(write_value(text, &copy)?)
+    write_last(text, value.clone_copy(alloc)?)
 }
 
-// The text of a value, of its clone, of its owned copy, and of the clone and the owned copy of
-// that.
+// Writes a value and its clone, and makes its owned copy.
+fn write_and_own<T: Owning>(text: &mut String, alloc: Global, value: T) -> ParseResult<T> {
+    write_with_clone(text, alloc, &value)?;
+    value.into_owned_copy(alloc)
+}
+
+// Writes a value, its clone, its owned copy, and the clone and the owned copy of that.
+fn write_copies<T: Owning>(text: &mut String, alloc: Global, value: T) -> ParseResult<()> {
+    let owned = write_and_own(text, alloc, value)?;
+    let again = write_and_own(text, alloc, owned)?;
+    write_last(text, again)
+}
+
+// The text of these.
 fn text_with_copies<T: Owning>(alloc: Global, value: ParseResult<T>) -> ParseResult<String> {
     let mut text = String::new(alloc);
-    let value = value?;
-    write_with_clone(&mut text, alloc, &value)?;
-    let owned = value.into_owned_copy(alloc)?;
-    write_with_clone(&mut text, alloc, &owned)?;
-    let again = owned.into_owned_copy(alloc)?;
-    write_value(&mut text, &again)?;
+    write_copies(&mut text, alloc, value?)?;
     Ok(text)
 }
 
@@ -220,7 +234,10 @@ fn check_copies<T: Owning>(rt: &(impl AllocGlobal + Abort), value: ParseResult<T
 // The text of a value and of its clone.
 fn text_with_clone<T: CloneText>(alloc: Global, value: ParseResult<T>) -> ParseResult<String> {
     let mut text = String::new(alloc);
-    write_with_clone(&mut text, alloc, &value?)?;
+    let value = value?;
+    let written = write_with_clone(&mut text, alloc, &value);
+    drop(value);
+    written?;
     Ok(text)
 }
 

@@ -3,8 +3,9 @@
 use crate::tests::checks::{check_answers, check_debug, check_parsed_text};
 use bitflags::Flags;
 use perf_base::{CowSlice, ParseResult};
-use perf_types::group_laws::{EntryCall, entry_call, entry_calls, through_a_group};
-use perf_types::{GroupEntry, GroupIter, Read, ReadGroup, ReadValue, TryFromGroupError};
+use perf_counters::group_laws::{EntryCall, entry_call, entry_calls, through_a_group};
+use perf_counters::{GroupEntry, GroupIter, ReadGroup, ReadValue, TryFromGroupError};
+use perf_types::Read;
 use perf_words::ReadFormat;
 use std::alloc::{AllocError, Global};
 use std::process::Abort;

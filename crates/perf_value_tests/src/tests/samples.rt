@@ -3,11 +3,11 @@
 use crate::tests::checks::{check_debug, check_parsed_text};
 use bitflags::Flags;
 use perf_base::{CowSlice, ParseResult};
+use perf_counters::ReadGroup;
 use perf_sample_types::registers::Registers;
 use perf_sample_types::sample::Sample;
 use perf_sample_types::sample_fields::SampleFields;
 use perf_sample_types::sample_id::SampleId;
-use perf_types::ReadGroup;
 use perf_words::{BranchEntry, DataSource, ReadFormat, SampleRegsAbi, Txn};
 use std::alloc::Global;
 use std::process::Abort;
@@ -72,9 +72,17 @@ fn write_sample(text: &mut String, sample: &Sample<'_>) -> ParseResult<()> {
     Ok(write!(text, "{:?}\n", (numbers_of(sample), lists))?)
 }
 
+// Lets go of a sample by a call that takes it: how one is dropped would be proved here anew.
+fn release(sample: Sample<'_>) {
+    let _ = SampleId::from(sample);
+}
+
 // A sample of a clone of these fields.
 fn sample_of_a_clone<'a>(alloc: Global, fields: &SampleFields<'a>) -> ParseResult<Sample<'a>> {
-    Ok(Sample::from_fields(fields.clone(alloc)?))
+    match fields.clone(alloc) {
+        Ok(fields) => Ok(Sample::from_fields(fields)),
+        Err(error) => Err(error),
+    }
 }
 
 // Writes the results of a copy of a sample.
@@ -82,7 +90,7 @@ fn write_copy(text: &mut String, copy: ParseResult<Sample<'_>>) -> ParseResult<(
     match copy {
         Ok(sample) => {
             let written = write_sample(text, &sample);
-            drop(sample);
+            release(sample);
             written
         }
         Err(error) => Err(error),
@@ -99,7 +107,7 @@ fn write_with_clone(text: &mut String, alloc: Global, sample: &Sample<'_>) -> Pa
 fn write_fields(text: &mut String, alloc: Global, fields: SampleFields<'_>) -> ParseResult<()> {
     let sample = Sample::from_fields(fields);
     let written = write_with_clone(text, alloc, &sample);
-    drop(sample);
+    release(sample);
     written
 }
 
@@ -250,7 +258,7 @@ fn text_of_owned(alloc: Global, branches: &[BranchEntry]) -> ParseResult<String>
     match own_all(alloc, &mut fields) {
         Ok(()) => text_with_copies(alloc, fields),
         Err(error) => {
-            drop(fields);
+            release(Sample::from_fields(fields));
             Err(error)
         }
     }

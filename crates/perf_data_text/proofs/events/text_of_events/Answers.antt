@@ -1,6 +1,6 @@
 use Rattle.std.proofs.Common.{◌++◌, List, get_or, ap, sym, zero-add, ◌∙◌}
-use Rattle.perf_file.specs.Opened.{event_view}
-use Rattle.perf_file.specs.declared.events.Event.{Event}
+use Rattle.perf_sections.specs.Opened.{event_view}
+use Rattle.perf_sections.specs.declared.events.Event.{Event}
 use Rattle.perf_data_text.specs.OwnNames.{own_lines}
 use Rattle.perf_data_text.proofs.Naming.{named_alike}
 use Rattle.perf_data_text.proofs.events.text_of_events.Goals as goal

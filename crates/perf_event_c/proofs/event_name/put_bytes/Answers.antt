@@ -1,7 +1,7 @@
 use Rattle.std.proofs.Common.{◌≡◌, ◌++◌, ◌∷◌, [], ◌+◌, List, ℕ, take, length, min, get_or, flat_map, ap, sym, ◌∙◌, append-nil, arith}
 use Rattle.std.proofs.lemmas.Grind.{flat_map-append}
 use Rattle.std.proofs.lemmas.List.{take_more}
-use Rattle.perf_file.specs.Names.{escaped}
+use Rattle.perf_sections.specs.Names.{escaped}
 use Rattle.perf_event_c.specs.FlatNames.{over}
 use Rattle.perf_event_c.proofs.event_name.put_bytes.Goals as goal
 

@@ -1,5 +1,5 @@
 use Rattle.std.proofs.Common.{◌≡◌, take, length, min, flat_map}
-use Rattle.perf_file.specs.Names.{escaped}
+use Rattle.perf_sections.specs.Names.{escaped}
 use Rattle.perf_event_c.specs.FlatNames.{over}
 use Rattle.perf_event_c.proofs.event_name.put_bytes.Given as goal
 

@@ -2,10 +2,10 @@ use Rattle.std.proofs.Common.{◌≡◌, ℕ, ◌+◌, ◌-◌, ◌<◌, ◌≤�
 use Rattle.std.proofs.lemmas.Grind.{take-set_at}
 use Rattle.std.proofs.lemmas.List.{take_all, append-nil}
 use Rattle.std.proofs.lemmas.Result.{err_from_is_err_and}
-use Rattle.perf_file.specs.Attributes.{attribute_at}
-use Rattle.perf_file.specs.IdSections.{entry_count}
-use Rattle.perf_file.specs.Opens.{◌>>=◌, each_from}
-use Rattle.perf_file.specs.declared.section.Section.{Section}
+use Rattle.perf_sections.specs.Attributes.{attribute_at}
+use Rattle.perf_sections.specs.IdSections.{entry_count}
+use Rattle.perf_sections.specs.Opens.{◌>>=◌, each_from}
+use Rattle.perf_sections.specs.declared.section.Section.{Section}
 use Rattle.perf_file.proofs.Stepping.{step, stop, over, front_more}
 use Rattle.perf_event_c.specs.FileEvents.{flat_event}
 use Rattle.perf_event_c.specs.declared.file_events.FlatEvent.{FlatEvent}

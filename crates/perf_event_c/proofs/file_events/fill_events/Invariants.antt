@@ -1,8 +1,8 @@
 use Rattle.std.proofs.Common.{◌≡◌, ◌-◌, ◌++◌, Ok, map, take, drop}
 use Rattle.std.specs.List.{zip}
-use Rattle.perf_file.specs.Attributes.{attribute_at}
-use Rattle.perf_file.specs.IdSections.{entry_count}
-use Rattle.perf_file.specs.Opens.{◌>>=◌, each_from}
+use Rattle.perf_sections.specs.Attributes.{attribute_at}
+use Rattle.perf_sections.specs.IdSections.{entry_count}
+use Rattle.perf_sections.specs.Opens.{◌>>=◌, each_from}
 use Rattle.perf_event_c.specs.FileEvents.{flat_event, flat_events}
 use Rattle.perf_event_c.proofs.file_events.fill_events.Given as goal
 

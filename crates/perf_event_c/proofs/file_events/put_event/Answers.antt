@@ -6,7 +6,7 @@ use Rattle.std.proofs.lemmas.Result.{err_from_is_err_and}
 use Rattle.perf_file.specs.NoteViews.{note_of}
 use Rattle.perf_file.specs.PipeOutlines.{from_notes}
 use Rattle.perf_file.specs.Pipes.{is_of, noted_attribute}
-use Rattle.perf_file.specs.declared.section.Section.{Section}
+use Rattle.perf_sections.specs.declared.section.Section.{Section}
 use Rattle.perf_file.proofs.PipeCounts.{reads_one, stops_at, made_alike, counts_one}
 use Rattle.perf_event_c.specs.FileEvents.{flat_event}
 use Rattle.perf_event_c.specs.declared.file_events.FlatEvent.{FlatEvent}

@@ -1,5 +1,5 @@
 use Rattle.std.proofs.Common.{◌≡◌, Result, Err, refl, ap, ◌∙◌}
-use Rattle.perf_file.specs.declared.error.OpenError.{OpenError}
+use Rattle.perf_sections.specs.declared.error.OpenError.{OpenError}
 use Rattle.perf_file.specs.declared.summary.Outline.{Outline}
 use Rattle.perf_file.proofs.InMemory.{outline_refused}
 use Rattle.perf_event_c.specs.Files.{open_code}

@@ -2,8 +2,8 @@ use Rattle.std.proofs.Common.{◌≡◌, ◌+◌, ◌<◌, ◌≤◌, ◌++◌, 
 use Rattle.std.proofs.lemmas.Grind.{take-set_at}
 use Rattle.std.proofs.lemmas.List.{take_all, take_more, map_push}
 use Rattle.perf_base.specs.Dynamic.{order_of}
-use Rattle.perf_file.specs.NamePlaces.{unnamed}
-use Rattle.perf_file.specs.declared.name_places.NamePlace.{NamePlace}
+use Rattle.perf_sections.specs.NamePlaces.{unnamed}
+use Rattle.perf_sections.specs.declared.name_places.NamePlace.{NamePlace}
 use Rattle.perf_event_c.specs.FlatNames.{flat_key}
 use Rattle.perf_event_c.specs.declared.file_events.FlatEvent.{FlatEvent}
 use Rattle.perf_event_c.proofs.file_names.fill_keys.Goals as goal

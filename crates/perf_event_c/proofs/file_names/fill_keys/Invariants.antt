@@ -1,6 +1,6 @@
 use Rattle.std.proofs.Common.{◌≡◌, map, take}
 use Rattle.perf_base.specs.Dynamic.{order_of}
-use Rattle.perf_file.specs.NamePlaces.{unnamed}
+use Rattle.perf_sections.specs.NamePlaces.{unnamed}
 use Rattle.perf_event_c.specs.FlatNames.{flat_key}
 use Rattle.perf_event_c.proofs.file_names.fill_keys.Given as goal
 

@@ -1,7 +1,7 @@
 use Rattle.std.proofs.Common.{List, get_or, Contains, All, sym, subst}
 use Rattle.perf_base.specs.Dynamic.{order_of}
-use Rattle.perf_file.specs.NamePlaces.{IsUnnamed, unnamed}
-use Rattle.perf_file.specs.declared.name_places.NamePlace.{NamePlace}
+use Rattle.perf_sections.specs.NamePlaces.{IsUnnamed, unnamed}
+use Rattle.perf_sections.specs.declared.name_places.NamePlace.{NamePlace}
 use Rattle.perf_event_c.specs.FlatNames.{flat_key}
 use Rattle.perf_event_c.specs.declared.file_events.FlatEvent.{FlatEvent}
 use Rattle.perf_event_c.proofs.NameLaws.{contains_map, all_unnamed}

@@ -3,9 +3,9 @@ use Rattle.std.proofs.Math.Seq.{map-set_same}
 use Rattle.std.proofs.lemmas.Grind.{take-set_at}
 use Rattle.std.proofs.lemmas.List.{take_all, take_more, map_push}
 use Rattle.perf_base.specs.Dynamic.{order_of}
-use Rattle.perf_file.specs.NamePlaces.{HasRank, rank_of}
+use Rattle.perf_sections.specs.NamePlaces.{HasRank, rank_of}
 use Rattle.perf_file.specs.NotePlaces.{bytes_of}
-use Rattle.perf_file.specs.Names.{Name, described_or, name_by_numbers}
+use Rattle.perf_sections.specs.Names.{Name, described_or, name_by_numbers}
 use Rattle.perf_event_c.specs.FlatNames.{flat_key, flat_name, described_by, nameless}
 use Rattle.perf_event_c.specs.declared.file_events.FlatEvent.{FlatEvent}
 use Rattle.perf_event_c.proofs.NameLaws.{zero_event, nameless_at}

@@ -4,7 +4,7 @@ use Rattle.perf_base.specs.Dynamic.{order_of}
 use Rattle.perf_file.specs.NotePlaces.{IsPlaced}
 use Rattle.perf_file.specs.NoteViews.{notes_left}
 use Rattle.perf_file.specs.Pipes.{named_by, last_name, all_frames}
-use Rattle.perf_file.specs.declared.ids.IdOfEvent.{IdOfEvent}
+use Rattle.perf_sections.specs.declared.ids.IdOfEvent.{IdOfEvent}
 use Rattle.perf_event_c.specs.FlatNames.{flat_name, nameless}
 use Rattle.perf_event_c.specs.declared.file_events.FlatEvent.{FlatEvent}
 use Rattle.perf_event_c.proofs.file_names.rename_all.Given as goal

@@ -1,6 +1,6 @@
 use Rattle.std.proofs.Common.{◌≡◌, Ok, drop}
 use Rattle.perf_file.specs.Forms.{opened}
-use Rattle.perf_file.specs.Opened.{File}
+use Rattle.perf_sections.specs.Opened.{File}
 use Rattle.perf_file.specs.PipeOutlines.{form_outline}
 use Rattle.perf_file.specs.declared.summary.Outline.{Outline}
 use Rattle.perf_event_c.specs.EntryReads.{States, ReadsEntries}

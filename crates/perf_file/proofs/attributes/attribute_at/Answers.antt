@@ -1,5 +1,5 @@
 use Rattle.std.proofs.Common.{ap, ◌∙◌}
-use Rattle.perf_file.specs.Attributes.{attribute_in, of_event}
+use Rattle.perf_sections.specs.Attributes.{attribute_in, of_event}
 use Rattle.perf_file.proofs.attributes.attribute_at.Goals as goal
 
 pub returns-in-Ok : goal.returns-in-Ok

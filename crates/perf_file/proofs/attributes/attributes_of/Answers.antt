@@ -1,8 +1,8 @@
 use Rattle.std.proofs.Common.{sym}
 use Rattle.std.proofs.lemmas.Result.{err_from_is_err_and}
-use Rattle.perf_file.specs.Attributes.{attribute_at, attributes_in}
-use Rattle.perf_file.specs.IdSections.{entry_count}
-use Rattle.perf_file.proofs.InTurn.{goes_on, ends, is_done, fails}
+use Rattle.perf_sections.specs.Attributes.{attribute_at, attributes_in}
+use Rattle.perf_sections.specs.IdSections.{entry_count}
+use Rattle.perf_sections.proofs.InTurn.{goes_on, ends, is_done, fails}
 use Rattle.perf_file.proofs.attributes.attributes_of.Goals as goal
 
 pub returns-in_err-attr : goal.returns-in_err-attr

@@ -1,8 +1,8 @@
 use Rattle.std.proofs.Common.{◌≡◌, ◌-◌}
-use Rattle.perf_file.specs.Attributes.{attribute_at, attributes_in}
-use Rattle.perf_file.specs.IdSections.{entry_count}
-use Rattle.perf_file.specs.Opens.{each_from}
-use Rattle.perf_file.proofs.InTurn.{with_front}
+use Rattle.perf_sections.specs.Attributes.{attribute_at, attributes_in}
+use Rattle.perf_sections.specs.IdSections.{entry_count}
+use Rattle.perf_sections.specs.Opens.{each_from}
+use Rattle.perf_sections.proofs.InTurn.{with_front}
 use Rattle.perf_file.proofs.attributes.attributes_of.Given as goal
 
 abbrev pub invariant-loop-index : goal.invariant-loop-index

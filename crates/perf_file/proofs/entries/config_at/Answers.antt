@@ -2,8 +2,8 @@ use Rattle.std.proofs.Common.{◌≡◌, ◌<◌, ◌≤◌, List, length, get_o
 use Rattle.std.specs.Prelude.{option_map}
 use Rattle.perf_base.specs.Configuration.{Configuration, configured_by}
 use Rattle.perf_base.specs.Configured.{endian_of}
-use Rattle.perf_file.specs.Opened.{FileEvent}
-use Rattle.perf_file.specs.declared.events.Event.{Event}
+use Rattle.perf_sections.specs.Opened.{FileEvent}
+use Rattle.perf_sections.specs.declared.events.Event.{Event}
 use Rattle.perf_file.proofs.EntryLaws.{event_there, event_absent}
 use Rattle.perf_file.proofs.entries.config_at.Goals as goal
 

@@ -2,12 +2,12 @@ use Rattle.std.proofs.Common.{List, length, map, zip, Ok, Err, ap, subst, sym, â
 use Rattle.std.proofs.lemmas.Result.{err_from_is_err_and}
 use Rattle.perf_base.specs.Dynamic.{order_of}
 use Rattle.perf_base.specs.declared.sys.perf_event_attr.{perf_event_attr}
-use Rattle.perf_file.specs.Attributes.{attribute_at}
-use Rattle.perf_file.specs.IdSections.{id_section_at, entry_count, sections_of, checked_apart}
-use Rattle.perf_file.specs.Opened.{FileEvent, event_in, events_in}
-use Rattle.perf_file.specs.Sections.{ShareNothing}
-use Rattle.perf_file.specs.declared.section.Section.{Section}
-use Rattle.perf_file.proofs.InTurn.{fails}
+use Rattle.perf_sections.specs.Attributes.{attribute_at}
+use Rattle.perf_sections.specs.IdSections.{id_section_at, entry_count, sections_of, checked_apart}
+use Rattle.perf_sections.specs.Opened.{FileEvent, event_in, events_in}
+use Rattle.perf_sections.specs.Sections.{ShareNothing}
+use Rattle.perf_sections.specs.declared.section.Section.{Section}
+use Rattle.perf_sections.proofs.InTurn.{fails}
 use Rattle.perf_file.proofs.Whole.{events_after, same_length, all_inside}
 use Rattle.perf_file.proofs.event_list.events_in.Goals as goal
 

@@ -1,10 +1,10 @@
 use Rattle.std.proofs.Common.{ap, subst, sym, rules, map}
 use Rattle.std.proofs.lemmas.List.Sorted.{IsNonDecreasingBy-from_sort_by_key, IsPermutation-sym}
 use Rattle.std.specs.List.Sorted.{IsPermutation}
-use Rattle.perf_file.specs.declared.ids.IdOfEvent.{IdOfEvent}
-use Rattle.perf_file.specs.IdTables.{IsFunction, shared_or_not}
-use Rattle.perf_file.specs.Opened.{event_view, table_of}
-use Rattle.perf_file.proofs.Tables.{least_is, none_is, shared_moved, function_moved, event_moved}
+use Rattle.perf_sections.specs.declared.ids.IdOfEvent.{IdOfEvent}
+use Rattle.perf_sections.specs.IdTables.{IsFunction, shared_or_not}
+use Rattle.perf_sections.specs.Opened.{event_view, table_of}
+use Rattle.perf_sections.proofs.Tables.{least_is, none_is, shared_moved, function_moved, event_moved}
 use Rattle.perf_file.proofs.event_list.sorted_table.Goals as goal
 
 pub least_shared-requires : goal.least_shared-requires

@@ -4,7 +4,7 @@ use Rattle.perf_base.specs.Dynamic.{order_of}
 use Rattle.perf_file.specs.NotePlaces.{IsPlaced, bytes_of}
 use Rattle.perf_file.specs.NoteViews.{notes_left}
 use Rattle.perf_file.specs.Pipes.{all_frames, noted_feature, newer}
-use Rattle.perf_file.specs.Sections.{IsInside}
+use Rattle.perf_sections.specs.Sections.{IsInside}
 use Rattle.perf_file.proofs.feature_places.noted_section.Given as goal
 
 abbrev pub invariant-loop-note : goal.invariant-loop-note

@@ -1,8 +1,8 @@
 use Rattle.std.proofs.Common.{List, map, Ok, refl, subst, sym}
 use Rattle.std.proofs.lemmas.Result.{err_from_is_err_and}
-use Rattle.perf_file.specs.Opened.{event_view, opened_file, checked_events, file_with}
-use Rattle.perf_file.specs.Opens.{◌>>=◌, Fails}
-use Rattle.perf_file.specs.declared.events.Event.{Event}
+use Rattle.perf_sections.specs.Opened.{event_view, opened_file, checked_events, file_with}
+use Rattle.perf_sections.specs.Opens.{◌>>=◌, Fails}
+use Rattle.perf_sections.specs.declared.events.Event.{Event}
 use Rattle.perf_file.proofs.Whole.{opened_after, fails_first, fails_by}
 use Rattle.perf_file.proofs.form_opening.open_file.Goals as goal
 

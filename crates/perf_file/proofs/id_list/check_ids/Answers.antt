@@ -1,8 +1,8 @@
 use Rattle.std.proofs.Common.{ap, sym, rules}
 use Rattle.std.proofs.lemmas.List.Sorted.{IsNonDecreasingBy-from_sort_by_key, IsPermutation-sym}
-use Rattle.perf_file.specs.declared.ids.IdOfEvent.{IdOfEvent}
-use Rattle.perf_file.specs.IdTables.{shared_or_not}
-use Rattle.perf_file.proofs.Tables.{least_is, none_is, shared_moved, function_moved, event_moved}
+use Rattle.perf_sections.specs.declared.ids.IdOfEvent.{IdOfEvent}
+use Rattle.perf_sections.specs.IdTables.{shared_or_not}
+use Rattle.perf_sections.proofs.Tables.{least_is, none_is, shared_moved, function_moved, event_moved}
 use Rattle.perf_file.proofs.id_list.check_ids.Goals as goal
 
 pub least_shared-requires : goal.least_shared-requires

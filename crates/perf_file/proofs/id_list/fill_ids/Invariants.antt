@@ -1,6 +1,6 @@
 use Rattle.std.proofs.Common.{◌≡◌, ◌+◌, ◌++◌, take, drop, map, length}
 use Rattle.perf_base.specs.Dynamic.{order_of}
-use Rattle.perf_file.specs.IdTables.{id_table}
+use Rattle.perf_sections.specs.IdTables.{id_table}
 use Rattle.perf_file.specs.Outlines.{id_count, words_in, table_in}
 use Rattle.perf_file.proofs.id_list.fill_ids.Given as goal
 

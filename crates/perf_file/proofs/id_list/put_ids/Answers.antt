@@ -2,10 +2,10 @@ use Rattle.std.proofs.Common.{◌+◌, ◌-◌, ◌*◌, ◌/◌, ◌<◌, ◌++
 use Rattle.std.proofs.lemmas.Grind.{take-set_at}
 use Rattle.perf_base.specs.Dynamic.{order_of}
 use Rattle.perf_base.specs.Layout.{words_of}
-use Rattle.perf_file.specs.IdTables.{ids_of}
-use Rattle.perf_file.specs.declared.ids.IdOfEvent.{IdOfEvent}
+use Rattle.perf_sections.specs.IdTables.{ids_of}
+use Rattle.perf_sections.specs.declared.ids.IdOfEvent.{IdOfEvent}
 use Rattle.perf_file.proofs.IdFilling.{ids_more}
-use Rattle.perf_file.proofs.Tables.{pair}
+use Rattle.perf_sections.proofs.Tables.{pair}
 use Rattle.perf_file.proofs.id_list.put_ids.Goals as goal
 
 pub loop-index-preserved : goal.loop-index-preserved

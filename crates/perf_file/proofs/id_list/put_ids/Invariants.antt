@@ -1,7 +1,7 @@
 use Rattle.std.proofs.Common.{◌≡◌, ◌-◌, ◌+◌, ◌*◌, ◌/◌, ◌++◌, take, drop}
 use Rattle.perf_base.specs.Dynamic.{order_of}
 use Rattle.perf_base.specs.Layout.{words_of}
-use Rattle.perf_file.specs.IdTables.{ids_of}
+use Rattle.perf_sections.specs.IdTables.{ids_of}
 use Rattle.perf_file.specs.Outlines.{words_in}
 use Rattle.perf_file.proofs.id_list.put_ids.Given as goal
 

@@ -1,9 +1,9 @@
 use Rattle.std.proofs.Common.{Bool, None, ap, sym, ◌∙◌}
 use Rattle.std.specs.Prelude.{if◌then◌else◌}
 use Rattle.perf_base.specs.Dynamic.{order_of}
-use Rattle.perf_file.specs.IdTables.{event_of}
+use Rattle.perf_sections.specs.IdTables.{event_of}
 use Rattle.perf_file.specs.NoteViews.{note_of}
-use Rattle.perf_file.specs.Numbers.{number}
+use Rattle.perf_sections.specs.Numbers.{number}
 use Rattle.perf_file.proofs.NotePlacing.{name_is, placed_name}
 use Rattle.perf_file.proofs.new_names.new_name_in.Goals as goal
 

@@ -3,10 +3,10 @@ use Rattle.std.proofs.lemmas.Grind.{take-set_at}
 use Rattle.std.proofs.lemmas.List.{take_all, append-nil}
 use Rattle.std.proofs.lemmas.List.Elements.{All-push}
 use Rattle.std.proofs.lemmas.Result.{err_from_is_err_and}
-use Rattle.perf_file.specs.declared.section.Section.{Section}
-use Rattle.perf_file.specs.IdSections.{id_section_at, entry_count, sections_of}
-use Rattle.perf_file.specs.Opens.{◌>>=◌, each_from}
-use Rattle.perf_file.specs.Sections.{IsInside}
+use Rattle.perf_sections.specs.declared.section.Section.{Section}
+use Rattle.perf_sections.specs.IdSections.{id_section_at, entry_count, sections_of}
+use Rattle.perf_sections.specs.Opens.{◌>>=◌, each_from}
+use Rattle.perf_sections.specs.Sections.{IsInside}
 use Rattle.perf_file.proofs.Whole.{all_inside}
 use Rattle.perf_file.proofs.Stepping.{step, stop, over, front_more, three_set, three_length}
 use Rattle.perf_file.proofs.parts.fill_parts.Goals as goal

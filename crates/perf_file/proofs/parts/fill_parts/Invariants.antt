@@ -1,8 +1,8 @@
 use Rattle.std.proofs.Common.{◌≡◌, ◌-◌, ◌+◌, ◌++◌, Ok, All, take}
-use Rattle.perf_file.specs.IdSections.{id_section_at, entry_count}
-use Rattle.perf_file.specs.Opens.{◌>>=◌, each_from}
+use Rattle.perf_sections.specs.IdSections.{id_section_at, entry_count}
+use Rattle.perf_sections.specs.Opens.{◌>>=◌, each_from}
 use Rattle.perf_file.specs.Outlines.{parts_in}
-use Rattle.perf_file.specs.Sections.{IsInside}
+use Rattle.perf_sections.specs.Sections.{IsInside}
 use Rattle.perf_file.proofs.parts.fill_parts.Given as goal
 
 abbrev pub invariant-loop-index : goal.invariant-loop-index

@@ -1,8 +1,8 @@
 use Rattle.std.proofs.Common.{◌∙◌, rules}
 use Rattle.std.proofs.lemmas.List.Sorted.{IsNonDecreasingBy-from_sort_by_key, All-permutation}
-use Rattle.perf_file.specs.Sections.{IsSmall}
-use Rattle.perf_file.specs.declared.section.Section.{Section}
-use Rattle.perf_file.proofs.Sweeping.{nothing_moved_on, apart_moved}
+use Rattle.perf_sections.specs.Sections.{IsSmall}
+use Rattle.perf_sections.specs.declared.section.Section.{Section}
+use Rattle.perf_sections.proofs.Sweeping.{nothing_moved_on, apart_moved}
 use Rattle.perf_file.proofs.parts.parts_are_apart.Goals as goal
 
 pub sorted_are_apart-requires-clause-small : goal.sorted_are_apart-requires-clause-small

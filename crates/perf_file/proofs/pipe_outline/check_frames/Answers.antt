@@ -3,8 +3,8 @@ use Rattle.std.specs.Prelude.{if◌then◌else◌}
 use Rattle.std.specs.List.{list_any}
 use Rattle.perf_file.specs.NoteViews.{note_of, notes_left}
 use Rattle.perf_file.specs.Pipes.{is_compressed, all_frames}
-use Rattle.perf_file.specs.declared.error.OpenError.{OpenError}
-use Rattle.perf_file.specs.declared.error.OpenError.TheVariants as errors
+use Rattle.perf_sections.specs.declared.error.OpenError.{OpenError}
+use Rattle.perf_sections.specs.declared.error.OpenError.TheVariants as errors
 use Rattle.perf_file.proofs.PipeCounts.{any_first}
 use Rattle.perf_file.proofs.pipe_outline.check_frames.Goals as goal
 

@@ -3,7 +3,7 @@ use Rattle.std.specs.List.{filter}
 use Rattle.std.proofs.lemmas.List.{take_all, append-nil}
 use Rattle.perf_file.specs.PipeOutlines.{from_notes}
 use Rattle.perf_file.specs.Pipes.{FrameNote, is_of, noted_ids}
-use Rattle.perf_file.specs.declared.section.Section.{Section}
+use Rattle.perf_sections.specs.declared.section.Section.{Section}
 use Rattle.perf_file.proofs.PipeCounts.{none_left}
 use Rattle.perf_file.proofs.pipe_outline.fill_sections.Goals as goal
 

@@ -3,7 +3,7 @@ use Rattle.std.specs.List.{filter}
 use Rattle.perf_file.specs.NoteViews.{notes_left}
 use Rattle.perf_file.specs.PipeOutlines.{from_notes, note_sections}
 use Rattle.perf_file.specs.Pipes.{is_of, all_frames, noted_ids}
-use Rattle.perf_file.specs.Sections.{IsInside}
+use Rattle.perf_sections.specs.Sections.{IsInside}
 use Rattle.perf_file.proofs.pipe_outline.fill_sections.Given as goal
 
 abbrev pub invariant-loop-note : goal.invariant-loop-note

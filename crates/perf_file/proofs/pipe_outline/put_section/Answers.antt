@@ -7,8 +7,8 @@ use Rattle.std.proofs.lemmas.Result.{err_from_is_err_and}
 use Rattle.perf_file.specs.NoteViews.{note_of}
 use Rattle.perf_file.specs.PipeOutlines.{from_notes}
 use Rattle.perf_file.specs.Pipes.{is_of, noted_ids}
-use Rattle.perf_file.specs.Sections.{IsInside}
-use Rattle.perf_file.specs.declared.section.Section.{Section}
+use Rattle.perf_sections.specs.Sections.{IsInside}
+use Rattle.perf_sections.specs.declared.section.Section.{Section}
 use Rattle.perf_file.proofs.PipeCounts.{reads_one, stops_at, made_alike, counts_one}
 use Rattle.perf_file.proofs.pipe_outline.put_section.Goals as goal
 

@@ -2,13 +2,13 @@ use Rattle.std.proofs.Common.{◌≡◌, ◌++◌, ◌<◌, ℕ, List, All, leng
 use Rattle.std.proofs.Math.Seq.{take-append_seam}
 use Rattle.perf_base.specs.Configured.{endian_of}
 use Rattle.perf_base.specs.Dynamic.{order_of}
-use Rattle.perf_file.specs.Features.{or_nothing}
-use Rattle.perf_file.specs.IdTables.{event_of}
-use Rattle.perf_file.specs.Names.{name_of, name_view}
+use Rattle.perf_sections.specs.Features.{or_nothing}
+use Rattle.perf_sections.specs.IdTables.{event_of}
+use Rattle.perf_sections.specs.Names.{name_of, name_view}
 use Rattle.perf_file.specs.NoteViews.{note_of}
-use Rattle.perf_file.specs.Opened.{event_view, table_of}
+use Rattle.perf_sections.specs.Opened.{event_view, table_of}
 use Rattle.perf_file.specs.Pipes.{last_name, named_by, noted_feature, noted_name}
-use Rattle.perf_file.specs.declared.events.Event.{Event}
+use Rattle.perf_sections.specs.declared.events.Event.{Event}
 use Rattle.perf_file.proofs.NewNames.{all_named, as_many}
 use Rattle.perf_file.proofs.piped.found_pipe_events.Goals as goal
 

@@ -1,5 +1,5 @@
 use Rattle.std.proofs.Common.{ap, ◌∙◌}
-use Rattle.perf_file.specs.Attributes.{attribute_in, of_event}
+use Rattle.perf_sections.specs.Attributes.{attribute_in, of_event}
 use Rattle.perf_file.specs.Pieces.{take_most}
 use Rattle.perf_file.proofs.piped.noted_attribute.Goals as goal
 

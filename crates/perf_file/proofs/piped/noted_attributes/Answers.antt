@@ -3,7 +3,7 @@ use Rattle.std.proofs.lemmas.Result.{err_from_is_err_and}
 use Rattle.perf_file.specs.NoteViews.{note_of}
 use Rattle.perf_file.specs.Pipes.{each_of, noted_attribute}
 use Rattle.perf_file.proofs.EachNote.{goes_on, ends, is_done}
-use Rattle.perf_file.proofs.InTurn.{fails}
+use Rattle.perf_sections.proofs.InTurn.{fails}
 use Rattle.perf_file.proofs.piped.noted_attributes.Goals as goal
 
 pub returns-in_err-attr : goal.returns-in_err-attr

@@ -1,7 +1,7 @@
 use Rattle.std.proofs.Common.{◌≡◌, drop, map}
 use Rattle.perf_file.specs.NoteViews.{note_of}
 use Rattle.perf_file.specs.Pipes.{each_of, noted_attribute}
-use Rattle.perf_file.proofs.InTurn.{with_front}
+use Rattle.perf_sections.proofs.InTurn.{with_front}
 use Rattle.perf_file.proofs.piped.noted_attributes.Given as goal
 
 abbrev pub invariant-loop-index : goal.invariant-loop-index

@@ -2,7 +2,7 @@ use Rattle.std.proofs.Common.{List, length, map, ap, sym, ◌∙◌}
 use Rattle.perf_base.specs.declared.sys.perf_event_attr.{perf_event_attr}
 use Rattle.perf_file.specs.NoteViews.{note_of}
 use Rattle.perf_file.specs.Pipes.{noted_attribute, noted_ids}
-use Rattle.perf_file.specs.declared.section.Section.{Section}
+use Rattle.perf_sections.specs.declared.section.Section.{Section}
 use Rattle.perf_file.proofs.EachNote.{same_length}
 use Rattle.perf_file.proofs.piped.noted_events.Goals as goal
 

@@ -3,9 +3,9 @@ use Rattle.std.proofs.lemmas.Result.{err_from_is_err_and}
 use Rattle.std.proofs.lemmas.List.Elements.{All-push}
 use Rattle.perf_file.specs.NoteViews.{note_of}
 use Rattle.perf_file.specs.Pipes.{each_of, noted_ids}
-use Rattle.perf_file.specs.Sections.{IsInside}
+use Rattle.perf_sections.specs.Sections.{IsInside}
 use Rattle.perf_file.proofs.EachNote.{goes_on, ends, is_done}
-use Rattle.perf_file.proofs.InTurn.{fails}
+use Rattle.perf_sections.proofs.InTurn.{fails}
 use Rattle.perf_file.proofs.piped.noted_sections.Goals as goal
 
 pub returns-in_err-ids-clause-exact : goal.returns-in_err-ids-clause-exact

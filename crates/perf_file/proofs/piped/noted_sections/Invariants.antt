@@ -1,8 +1,8 @@
 use Rattle.std.proofs.Common.{◌≡◌, All, drop, map}
 use Rattle.perf_file.specs.NoteViews.{note_of}
 use Rattle.perf_file.specs.Pipes.{each_of, noted_ids}
-use Rattle.perf_file.specs.Sections.{IsInside}
-use Rattle.perf_file.proofs.InTurn.{with_front}
+use Rattle.perf_sections.specs.Sections.{IsInside}
+use Rattle.perf_sections.proofs.InTurn.{with_front}
 use Rattle.perf_file.proofs.piped.noted_sections.Given as goal
 
 abbrev pub invariant-loop-index : goal.invariant-loop-index

@@ -1,6 +1,6 @@
 use Rattle.std.proofs.Common.{◌+◌, List, drop, map, get_or, ap, sym, ◌∙◌, arith}
 use Rattle.perf_base.specs.Dynamic.{order_of}
-use Rattle.perf_file.specs.Names.{name_view}
+use Rattle.perf_sections.specs.Names.{name_view}
 use Rattle.perf_file.specs.NoteViews.{note_of}
 use Rattle.perf_file.specs.Pipes.{FrameNote, last_name, named_by}
 use Rattle.perf_file.proofs.EachNote.{here, none_left}

@@ -2,11 +2,11 @@ use Rattle.std.proofs.Common.{◌≡◌, ◌<◌, ℕ, All, length, map, drop, g
 use Rattle.perf_base.specs.Configured.{endian_of}
 use Rattle.perf_base.specs.Dynamic.{order_of}
 use Rattle.perf_base.specs.declared.endian.Dynamic.{Dynamic}
-use Rattle.perf_file.specs.Names.{name_view}
+use Rattle.perf_sections.specs.Names.{name_view}
 use Rattle.perf_file.specs.NoteViews.{note_of}
-use Rattle.perf_file.specs.Opened.{event_view}
+use Rattle.perf_sections.specs.Opened.{event_view}
 use Rattle.perf_file.specs.Pipes.{named_by, last_name}
-use Rattle.perf_file.specs.declared.events.Event.{Event}
+use Rattle.perf_sections.specs.declared.events.Event.{Event}
 use Rattle.perf_file.proofs.piped.rename_all.Given as goal
 
 abbrev pub invariant-loop-index : goal.invariant-loop-index

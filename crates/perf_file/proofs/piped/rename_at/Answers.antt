@@ -1,5 +1,5 @@
 use Rattle.std.proofs.Math.Seq.{map-set_same}
-use Rattle.perf_file.specs.Opened.{event_view}
+use Rattle.perf_sections.specs.Opened.{event_view}
 use Rattle.perf_file.proofs.piped.rename_at.Goals as goal
 
 pub returns-clause-same : goal.returns-clause-same

@@ -1,7 +1,7 @@
 use Rattle.std.proofs.Common.{Ok, sym, ◌∙◌}
 use Rattle.std.proofs.lemmas.Result.{err_from_is_err_and}
-use Rattle.perf_file.specs.Attributes.{attribute_at}
-use Rattle.perf_file.specs.IdSections.{entry_count}
+use Rattle.perf_sections.specs.Attributes.{attribute_at}
+use Rattle.perf_sections.specs.IdSections.{entry_count}
 use Rattle.perf_file.proofs.Stepping.{step, stop, over}
 use Rattle.perf_file.proofs.summary.check_attributes.Goals as goal
 

@@ -1,7 +1,7 @@
 use Rattle.std.proofs.Common.{◌≡◌, ◌-◌, Ok}
-use Rattle.perf_file.specs.Attributes.{attribute_at}
-use Rattle.perf_file.specs.IdSections.{entry_count}
-use Rattle.perf_file.specs.Opens.{◌>>=◌, each_from}
+use Rattle.perf_sections.specs.Attributes.{attribute_at}
+use Rattle.perf_sections.specs.IdSections.{entry_count}
+use Rattle.perf_sections.specs.Opens.{◌>>=◌, each_from}
 use Rattle.perf_file.specs.Outlines.{checked_attributes}
 use Rattle.perf_file.proofs.summary.check_attributes.Given as goal
 

@@ -1,7 +1,7 @@
 use Rattle.std.proofs.Common.{◌≡◌, ℕ, ◌+◌, ◌-◌, ◌/◌, Ok, min, length, ap, sym, ◌∙◌, arith}
 use Rattle.std.proofs.lemmas.Result.{err_from_is_err_and}
-use Rattle.perf_file.specs.IdSections.{id_section_at, entry_count}
-use Rattle.perf_file.specs.Opens.{◌>>=◌, each_from}
+use Rattle.perf_sections.specs.IdSections.{id_section_at, entry_count}
+use Rattle.perf_sections.specs.Opens.{◌>>=◌, each_from}
 use Rattle.perf_file.specs.Outlines.{id_count}
 use Rattle.perf_file.proofs.Stepping.{step, stop, over, count_more, count_done}
 use Rattle.perf_file.proofs.summary.count_ids.Goals as goal

@@ -1,6 +1,6 @@
 use Rattle.std.proofs.Common.{◌≡◌, ◌-◌, ◌+◌, ◌/◌, ◌≤◌, Ok, min, length}
-use Rattle.perf_file.specs.IdSections.{id_section_at, entry_count}
-use Rattle.perf_file.specs.Opens.{◌>>=◌, each_from}
+use Rattle.perf_sections.specs.IdSections.{id_section_at, entry_count}
+use Rattle.perf_sections.specs.Opens.{◌>>=◌, each_from}
 use Rattle.perf_file.specs.Outlines.{id_count, counted_ids}
 use Rattle.perf_file.proofs.summary.count_ids.Given as goal
 

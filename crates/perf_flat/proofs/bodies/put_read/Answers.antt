@@ -6,7 +6,7 @@ use Rattle.perf_flat.proofs.Spans.{no_strings}
 use Rattle.perf_flat.specs.BodyReads.{counter_read}
 use Rattle.perf_records.specs.Records.{read_is}
 use Rattle.perf_types.specs.Read.{read}
-use Rattle.perf_types.specs.ReadValue.{read_value}
+use Rattle.perf_counters.specs.ReadValue.{read_value}
 use Rattle.perf_flat.proofs.bodies.put_read.Goals as goal
 
 pub returns : goal.returns

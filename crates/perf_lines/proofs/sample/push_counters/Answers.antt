@@ -1,6 +1,6 @@
 use Rattle.std.proofs.Common.{◌∙◌, ◌∷◌, string_bytes, sym, ap}
-use Rattle.perf_types.specs.ReadGroup.{group_read}
-use Rattle.perf_types.specs.GroupIter.{entries_left}
+use Rattle.perf_counters.specs.ReadGroup.{group_read}
+use Rattle.perf_counters.specs.GroupIter.{entries_left}
 use Rattle.perf_lines.specs.SampleText.{counter_item}
 use Rattle.perf_lines.proofs.Spaced.{listed_to_end}
 use Rattle.perf_lines.proofs.sample.push_counters.Goals as goal

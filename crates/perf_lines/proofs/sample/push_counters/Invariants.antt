@@ -1,6 +1,6 @@
 use Rattle.std.proofs.Common.{◌≡◌, ◌++◌, string_bytes, codes}
 use Rattle.std.specs.List.{flat_map}
-use Rattle.perf_types.specs.GroupIter.{entries_left}
+use Rattle.perf_counters.specs.GroupIter.{entries_left}
 use Rattle.perf_lines.specs.SampleText.{counter_item}
 use Rattle.perf_lines.proofs.sample.push_counters.Given as goal
 

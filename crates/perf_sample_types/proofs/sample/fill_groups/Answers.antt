@@ -1,7 +1,7 @@
 use Rattle.std.proofs.Common.{◌≡◌, Err, refl, subst, sym, ◌∙◌}
 use Rattle.std.specs.Prelude.{IsTrue}
 use Rattle.perf_base.specs.Configured.{configuration_of}
-use Rattle.perf_types.proofs.Readings.{came_up}
+use Rattle.perf_counters.proofs.Readings.{came_up}
 use Rattle.perf_sample_types.specs.SampleMemory.{HasNoLists}
 use Rattle.perf_sample_types.proofs.ListFlags.{lasts_after}
 use Rattle.perf_sample_types.proofs.GroupRuns.{group_after, group_stops, groups_give, of_groups}

@@ -2,7 +2,7 @@ use Rattle.std.proofs.Common.{◌≡◌, ℕ, suc, ◌-◌, ◌==◌, ◌∷◌,
 use Rattle.std.specs.Prelude.{Option, Some}
 use Rattle.std.specs.BTreeMap.{get}
 use Rattle.std.specs.Ordering.{nat_cmp}
-use Rattle.perf_file.specs.IdTables.{ids_of}
+use Rattle.perf_sections.specs.IdTables.{ids_of}
 use Rattle.perf_script.specs.Ids.{event_or}
 use Rattle.perf_script.proofs.IdTables.{if_alike}
 use Rattle.perf_script.proofs.ids.add_ids.Goals as goal

@@ -1,5 +1,5 @@
 use Rattle.std.proofs.Common.{◌≤◌, length, drop}
-use Rattle.perf_file.specs.IdTables.{ids_of}
+use Rattle.perf_sections.specs.IdTables.{ids_of}
 use Rattle.perf_script.specs.Ids.{Adds}
 use Rattle.perf_script.proofs.ids.add_ids.Given as goal
 

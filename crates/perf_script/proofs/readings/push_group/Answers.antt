@@ -1,7 +1,7 @@
 use Rattle.std.proofs.Common.{◌≡◌, ℕ, suc, ◌-◌, ◌*◌, ◌/◌, ◌++◌, ◌∷◌, [], List, drop, length, sym, ◌∙◌, ap, append_assoc, arith}
 use Rattle.perf_base.specs.Dynamic.{order_of}
 use Rattle.perf_base.specs.Order.{Order}
-use Rattle.perf_types.specs.GroupEntry.{block_len}
+use Rattle.perf_counters.specs.GroupEntry.{block_len}
 use Rattle.perf_script.specs.Blocks.{readings_in, first_reading}
 use Rattle.perf_script.specs.declared.readings.Reading.{Reading}
 use Rattle.perf_script.proofs.Blocks.{readings_more, count_less}

@@ -1,6 +1,6 @@
 use Rattle.std.proofs.Common.{◌≡◌, ◌*◌, ◌++◌, ◌/◌, length}
 use Rattle.perf_base.specs.Dynamic.{order_of}
-use Rattle.perf_types.specs.GroupEntry.{block_len}
+use Rattle.perf_counters.specs.GroupEntry.{block_len}
 use Rattle.perf_script.specs.Blocks.{readings_in}
 use Rattle.perf_script.proofs.readings.push_group.Given as goal
 

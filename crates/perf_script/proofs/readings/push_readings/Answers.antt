@@ -4,7 +4,7 @@ use Rattle.perf_base.specs.Dynamic.{order_of}
 use Rattle.perf_base.specs.Order.{Order}
 use Rattle.perf_flat.specs.Strings.{span_at}
 use Rattle.perf_flat.specs.declared.frame.FlatFrame.{FlatFrame}
-use Rattle.perf_types.specs.ReadFormat.{has_group}
+use Rattle.perf_counters.specs.ReadFormat.{has_group}
 use Rattle.perf_words.specs.Bits.{has_bit}
 use Rattle.perf_script.specs.Blocks.{group_at}
 use Rattle.perf_script.specs.declared.readings.Reading.{Reading}

@@ -1,7 +1,7 @@
 use Rattle.std.proofs.Common.{◌∙◌, refl, sym, subst}
 use Rattle.perf_file.specs.Entries.{entries_of, IsInOrder}
 use Rattle.perf_file.specs.Forms.{event_name}
-use Rattle.perf_file.specs.Opened.{File}
+use Rattle.perf_sections.specs.Opened.{File}
 use Rattle.perf_file.specs.Views.{view}
 use Rattle.perf_script.specs.ScriptText.{choice_by}
 use Rattle.perf_script.proofs.Naming.{chosen_by, any_is}

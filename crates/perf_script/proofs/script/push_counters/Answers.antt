@@ -1,6 +1,6 @@
 use Rattle.std.proofs.Common.{◌≡◌, ℕ, ◌+◌, ◌++◌, List, [], drop, refl, sym, ◌∙◌, ap, subst, append-nil, arith}
 use Rattle.std.proofs.lemmas.List.{drop_all}
-use Rattle.perf_file.specs.Opened.{table_of}
+use Rattle.perf_sections.specs.Opened.{table_of}
 use Rattle.perf_script.specs.Counted.{IsCounted}
 use Rattle.perf_script.specs.Counters.{counters_text, read_after}
 use Rattle.perf_script.specs.SampleText.{Shown}

@@ -1,5 +1,5 @@
 use Rattle.std.proofs.Common.{◌≡◌, List, ◌++◌, drop}
-use Rattle.perf_file.specs.Opened.{File, table_of}
+use Rattle.perf_sections.specs.Opened.{File, table_of}
 use Rattle.perf_history.specs.Recorded.{IsHistory}
 use Rattle.perf_history.specs.declared.changes.Change.{Change}
 use Rattle.perf_script.specs.Counted.{IsCounted}

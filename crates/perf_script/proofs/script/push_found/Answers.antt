@@ -2,7 +2,7 @@ use Rattle.std.proofs.Common.{◌≡◌, ℕ, List, ◌++◌, sym, ap, subst, �
 use Rattle.std.proofs.lemmas.Result.{on_ok_weaker}
 use Rattle.perf_base.specs.Dynamic.{order_of}
 use Rattle.perf_base.specs.declared.endian.Dynamic.{Dynamic}
-use Rattle.perf_file.specs.Opened.{File, table_of}
+use Rattle.perf_sections.specs.Opened.{File, table_of}
 use Rattle.perf_file.specs.Views.{view}
 use Rattle.perf_flat.specs.Flat.{IsFlat}
 use Rattle.perf_flat.specs.declared.frame.FlatFrame.{FlatFrame}

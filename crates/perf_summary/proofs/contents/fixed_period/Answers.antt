@@ -1,7 +1,7 @@
 use Rattle.std.proofs.Common.{◌≡◌, ◌<◌, ◌≤◌, List, length, get_or, ap, subst, sym, ◌∙◌}
 use Rattle.std.specs.Prelude.{Option, option_and_then}
-use Rattle.perf_file.specs.Opened.{FileEvent, event_view}
-use Rattle.perf_file.specs.declared.events.Event.{Event}
+use Rattle.perf_sections.specs.Opened.{FileEvent, event_view}
+use Rattle.perf_sections.specs.declared.events.Event.{Event}
 use Rattle.perf_file.specs.Views.{view}
 use Rattle.perf_file.proofs.EntryLaws.{event_there, event_absent}
 use Rattle.perf_summary.specs.Contents.{fixed_period, fixed_period_of}

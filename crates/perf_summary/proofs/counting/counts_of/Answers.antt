@@ -1,9 +1,9 @@
 use Rattle.std.proofs.Common.{rules, ◌<◌, ◌^◌, List, length, ap, subst, sym, ◌∙◌, arith}
 use Rattle.std.proofs.lemmas.List.{length-map}
-use Rattle.perf_file.specs.Opened.{event_view}
+use Rattle.perf_sections.specs.Opened.{event_view}
 use Rattle.perf_file.specs.Pieces.{pieces, piece_of}
 use Rattle.perf_file.specs.Views.{view}
-use Rattle.perf_file.specs.declared.events.Event.{Event}
+use Rattle.perf_sections.specs.declared.events.Event.{Event}
 use Rattle.perf_summary.specs.Steps.{IsNew}
 use Rattle.perf_summary.proofs.Counted.{way_start, way_more, way_end}
 use Rattle.perf_summary.proofs.counting.counts_of.Goals as goal

@@ -1,7 +1,7 @@
 use Rattle.std.proofs.Common.{ℕ, List, [], ◌∷◌, ◌++◌, get_or, map, sym, ap, ◌∙◌, arith}
 use Rattle.std.proofs.lemmas.List.{map-append}
 use Rattle.serde_json.specs.View.{view}
-use Rattle.perf_file.specs.Names.{name_view, name_text}
+use Rattle.perf_sections.specs.Names.{name_view, name_text}
 use Rattle.perf_summary.specs.Steps.{no_count}
 use Rattle.perf_summary.specs.SummaryJson.{event_data}
 use Rattle.perf_summary.proofs.Datas.{data_more}

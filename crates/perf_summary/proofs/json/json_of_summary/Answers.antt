@@ -2,7 +2,7 @@ use Rattle.std.proofs.Common.{◌≡◌, ◌++◌, false, codes, length, refl, a
 use Rattle.std.proofs.lemmas.List.{length-map}
 use Rattle.serde_json.specs.View as values
 use Rattle.serde_json.specs.Written.{compact_text, has_float}
-use Rattle.perf_file.specs.Opened.{event_view}
+use Rattle.perf_sections.specs.Opened.{event_view}
 use Rattle.perf_file.specs.Views.{view}
 use Rattle.perf_summary.specs.Contents.{all_contents}
 use Rattle.perf_summary.specs.Counts.{AreCounts}

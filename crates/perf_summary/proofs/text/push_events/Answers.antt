@@ -1,5 +1,5 @@
 use Rattle.std.proofs.Common.{◌++◌, ℕ, List, get_or, take, string_bytes, sym, ap, ◌∙◌, append_assoc, arith}
-use Rattle.perf_file.specs.Names.{name_view, name_text}
+use Rattle.perf_sections.specs.Names.{name_view, name_text}
 use Rattle.perf_summary.specs.OwnLines.{own_event_lines}
 use Rattle.perf_summary.specs.Steps.{no_count}
 use Rattle.perf_summary.specs.SummaryText.{event_line}

@@ -1,10 +1,10 @@
 use Rattle.std.proofs.Common.{◌≡◌, List, length, map, nat_lt, refl, ap, sym, subst, ◌∙◌, arith}
 use Rattle.std.proofs.lemmas.List.{length-map}
 use Rattle.perf_file.specs.Finders.{IsTableOf}
-use Rattle.perf_file.specs.Opened.{attributes_of, event_view}
+use Rattle.perf_sections.specs.Opened.{attributes_of, event_view}
 use Rattle.perf_file.specs.Owners.{first_has_ids}
 use Rattle.perf_file.specs.Views.{view}
-use Rattle.perf_file.specs.declared.events.Event.{Event}
+use Rattle.perf_sections.specs.declared.events.Event.{Event}
 use Rattle.perf_file.proofs.opening.Recording.finder.Goals as goal
 
 pub returns : goal.returns

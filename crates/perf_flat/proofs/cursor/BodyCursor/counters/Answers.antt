@@ -1,6 +1,6 @@
 use Rattle.std.proofs.Common.{◌≡◌, true, false, [], ◌∷◌, refl, sym, ◌∙◌, ap}
 use Rattle.perf_sample_types.specs.Sample.{values, has_one, settings_of}
-use Rattle.perf_types.specs.ReadFormat.{has_group}
+use Rattle.perf_counters.specs.ReadFormat.{has_group}
 use Rattle.perf_words.specs.Bits.{has_bit}
 use Rattle.perf_words.proofs.Contained.{contains_bit}
 use Rattle.perf_flat.specs.BodyReads.{counter_read}

@@ -3,7 +3,7 @@ use Rattle.std.specs.Prelude.{nat_lt}
 use Rattle.std.proofs.Math.Nat.{mul_comm}
 use Rattle.perf_base.specs.FieldWords.{require}
 use Rattle.perf_base.specs.declared.error.ErrorKind.TheVariants.{UnsupportedConfig, InvalidRecord}
-use Rattle.perf_types.specs.ReadFormat.{has_known_bits}
+use Rattle.perf_counters.specs.ReadFormat.{has_known_bits}
 use Rattle.perf_words.specs.Sets.{element_len}
 use Rattle.perf_flat.specs.CursorReads.{ReadsParts}
 use Rattle.perf_flat.proofs.Lists.{group_read, format_is, some_is, few_numbers}

@@ -1,7 +1,7 @@
 use Rattle.std.proofs.Common.{◌≡◌, not, subst, ap, ◌∙◌}
 use Rattle.perf_base.specs.FieldWords.{require}
 use Rattle.perf_base.specs.declared.error.ErrorKind.TheVariants.{UnsupportedConfig}
-use Rattle.perf_types.specs.ReadFormat.{has_group, has_known_bits}
+use Rattle.perf_counters.specs.ReadFormat.{has_group, has_known_bits}
 use Rattle.perf_words.specs.Bits.{has_bit}
 use Rattle.perf_words.proofs.Contained.{contains_bit}
 use Rattle.perf_flat.specs.CursorReads.{ReadsParts}

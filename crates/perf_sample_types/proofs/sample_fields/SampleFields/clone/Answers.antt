@@ -1,14 +1,14 @@
 use Rattle.std.proofs.Common.{◌≡◌, true, ◌++◌, Err, refl, sym, ap, subst}
 use Rattle.perf_base.specs.Copies.{AllAre}
 use Rattle.perf_base.specs.Cow.{cow_form}
-use Rattle.perf_types.specs.ReadGroup.{read_group_form}
+use Rattle.perf_counters.specs.ReadGroup.{read_group_form}
 use Rattle.perf_sample_types.specs.SampleCopies.{TraceValue, ContentValue, trace_form, trace_of, content_form, content_of}
 use Rattle.perf_sample_types.specs.SampleForms.{form_if, fields_form}
 use Rattle.perf_sample_types.specs.declared.sample_fields.Content.{Content}
 use Rattle.perf_sample_types.specs.declared.sample_fields.SampleFields.{SampleFields}
 use Rattle.perf_sample_types.specs.declared.sample_fields.Trace.{Trace}
 use Rattle.perf_sample_types.proofs.Forms.{all_back, four_ahead, four_stay}
-use Rattle.perf_types.proofs.Readings.{came_up}
+use Rattle.perf_counters.proofs.Readings.{came_up}
 use Rattle.perf_sample_types.proofs.sample_fields.SampleFields.clone.Goals as goal
 
 halves : (f : SampleFields) → AllAre true (fields_form f) → AllAre true (trace_form (trace_of f) ++ content_form (content_of f))

@@ -2,7 +2,7 @@ use Rattle.std.proofs.Common.{◌≡◌, Err, ap, refl, ◌∙◌}
 use Rattle.perf_words.specs.SetBits.{sample_flags_bits}
 use Rattle.perf_base.specs.Configured.{configuration_of}
 use Rattle.perf_reader.proofs.RequestedParts.{fields_give, of_row}
-use Rattle.perf_types.proofs.Readings.{came_up}
+use Rattle.perf_counters.proofs.Readings.{came_up}
 use Rattle.perf_sample_types.proofs.FlaggedFields.{flag_after, flag_stops}
 use Rattle.perf_sample_types.proofs.ListFlags.{lasts_after, no_call_chain, no_values}
 use Rattle.perf_sample_types.proofs.sample_groups.Counts.fill.Goals as goal

@@ -3,7 +3,7 @@ use Rattle.std.specs.Prelude.{IsTrue}
 use Rattle.perf_words.specs.SetBits.{sample_flags_bits}
 use Rattle.perf_base.specs.Configured.{configuration_of}
 use Rattle.perf_reader.proofs.RequestedParts.{fields_give, of_row}
-use Rattle.perf_types.proofs.Readings.{came_up}
+use Rattle.perf_counters.proofs.Readings.{came_up}
 use Rattle.perf_sample_types.proofs.AbsentGroups.{absent_memory}
 use Rattle.perf_sample_types.proofs.FlaggedFields.{flag_after, flag_stops}
 use Rattle.perf_sample_types.proofs.ListFlags.{lasts_after}

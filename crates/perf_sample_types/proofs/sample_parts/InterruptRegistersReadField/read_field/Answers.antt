@@ -1,7 +1,7 @@
 use Rattle.std.proofs.Common.{◌≡◌, Err, ap, sym, ◌∙◌}
 use Rattle.perf_base.specs.Configured.{configuration_of}
 use Rattle.perf_base.specs.Layout.{map_parts}
-use Rattle.perf_types.proofs.Readings.{came_up}
+use Rattle.perf_counters.proofs.Readings.{came_up}
 use Rattle.perf_sample_types.specs.Registers.{registers_of}
 use Rattle.perf_sample_types.specs.Sample.{registers, registers_are}
 use Rattle.perf_sample_types.proofs.MappedParts.{mapped_stops}

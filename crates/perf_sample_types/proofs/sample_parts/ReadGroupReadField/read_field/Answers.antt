@@ -2,11 +2,11 @@ use Rattle.std.proofs.Common.{◌≡◌, true, if◌then◌else◌, ap, ◌∙�
 use Rattle.perf_base.specs.Configuration.{Configuration}
 use Rattle.perf_base.specs.Configured.{configuration_of}
 use Rattle.perf_base.specs.Layout.{map_parts}
-use Rattle.perf_types.specs.ReadFormat.{has_group}
-use Rattle.perf_types.specs.ReadGroup.{read_group, group_of}
-use Rattle.perf_types.specs.ReadValue.{read_value}
-use Rattle.perf_types.proofs.Flags.{contains_group}
-use Rattle.perf_types.proofs.Readings.{bit_is}
+use Rattle.perf_counters.specs.ReadFormat.{has_group}
+use Rattle.perf_counters.specs.ReadGroup.{read_group, group_of}
+use Rattle.perf_counters.specs.ReadValue.{read_value}
+use Rattle.perf_counters.proofs.Flags.{contains_group}
+use Rattle.perf_counters.proofs.Readings.{bit_is}
 use Rattle.perf_words.specs.SetBits.{read_format_bits}
 use Rattle.perf_sample_types.specs.Sample.{values, group_is}
 use Rattle.perf_sample_types.proofs.MappedParts.{mapped_stops}

@@ -1,6 +1,6 @@
 use Rattle.std.proofs.Common.{◌≡◌, ℕ, suc, ◌+◌, ◌-◌, ◌∷◌, List, drop, sym, ◌∙◌, ap, drop-cons, arith}
-use Rattle.perf_file.specs.IdTables.{ids_of, event_of}
-use Rattle.perf_file.specs.declared.events.Event.{Event}
+use Rattle.perf_sections.specs.IdTables.{ids_of, event_of}
+use Rattle.perf_sections.specs.declared.events.Event.{Event}
 use Rattle.perf_script.specs.Ids.{event_or}
 use Rattle.perf_script.proofs.IdTables.{ids_from, event_append}
 use Rattle.perf_script.proofs.ids.Ids.of.Goals as goal

@@ -1,7 +1,7 @@
 use Rattle.std.proofs.Common.{◌≡◌, ℕ, ◌≤◌, length, drop}
 use Rattle.std.specs.BTreeMap.{get}
 use Rattle.std.specs.Ordering.{nat_cmp}
-use Rattle.perf_file.specs.IdTables.{event_of}
+use Rattle.perf_sections.specs.IdTables.{event_of}
 use Rattle.perf_script.proofs.IdTables.{ids_from}
 use Rattle.perf_script.proofs.ids.Ids.of.Given as goal
 

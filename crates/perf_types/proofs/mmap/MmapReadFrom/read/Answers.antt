@@ -6,7 +6,7 @@ use Rattle.perf_types.specs.Mmap.{MmapValue, mmap_value}
 use Rattle.perf_types.specs.Mmap2.{place}
 use Rattle.perf_types.specs.declared.mmap2.Place.{Place}
 use Rattle.perf_reader.proofs.After.{call_after, call_stops, lent}
-use Rattle.perf_types.proofs.Readings.{came_up}
+use Rattle.perf_counters.proofs.Readings.{came_up}
 use Rattle.perf_types.proofs.mmap.MmapReadFrom.read.Goals as goal
 
 -- the record of a place and a path, and what is left to read after the place

@@ -7,7 +7,7 @@ use Rattle.perf_types.specs.Mmap2.{Mmap2Value}
 use Rattle.perf_types.specs.MmapDetail.{DetailValue, detail_value}
 use Rattle.perf_types.specs.Pair.{pair}
 use Rattle.perf_types.specs.declared.mmap2.Place.{Place}
-use Rattle.perf_types.proofs.Readings.{came_up}
+use Rattle.perf_counters.proofs.Readings.{came_up}
 use Rattle.perf_types.proofs.mmap2.Mmap2.read_path.Goals as goal
 
 -- a record made from these

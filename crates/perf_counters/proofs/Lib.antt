@@ -1,0 +1,5 @@
+pub mod Blocks
+pub mod Flags
+pub mod Nth
+pub mod Readings
+mod Worked

@@ -1,6 +1,0 @@
-use Rattle.std.proofs.Common.{◌≡◌, ◌+◌, drop}
-use Rattle.perf_file.specs.Descriptions.{zero_at}
-use Rattle.perf_file.proofs.descriptions.before_zero.Given as goal
-
-abbrev pub invariant-loop-index : goal.invariant-loop-index
-invariant-loop-index l = l.index + zero_at (drop l.index l.bytes) ≡ zero_at l.bytes

@@ -1,0 +1,11 @@
+//! The tests.
+
+mod causes;
+mod checks;
+mod faults;
+mod generated;
+mod hints;
+mod lines;
+mod sample_counts;
+mod streams;
+mod whole_frames;

@@ -1,0 +1,18 @@
+use Rattle.std.proofs.Common.{◌∙◌, ap, subst, rules}
+use Rattle.std.specs.Bool.{OnTrue}
+use Rattle.std.proofs.lemmas.List.Sorted.{IsNonDecreasingBy-from_sort_by_key, All-permutation}
+use Rattle.perf_sections.specs.Sections.{IsSmall, are_apart, ShareNothing}
+use Rattle.perf_sections.proofs.Sweeping.{nothing_moved_on, apart_moved}
+use Rattle.perf_sections.proofs.apart.sections_are_apart.Goals as goal
+
+pub sorted_are_apart-requires-clause-small : goal.sorted_are_apart-requires-clause-small
+sorted_are_apart-requires-clause-small c = rw c.deref.ensures.value (All-permutation IsSmall _ _ c.sort_unstable_by_key.ensures.permutation c.requires)
+
+pub sorted_are_apart-requires-clause-sorted : goal.sorted_are_apart-requires-clause-sorted
+sorted_are_apart-requires-clause-sorted c = rw c.deref.ensures.value (IsNonDecreasingBy-from_sort_by_key (λ s. s.start) _ c.sort_unstable_by_key.ensures.sorted (λ a r q k. search rules))
+
+pub returns-clause-value : goal.returns-clause-value
+returns-clause-value c = c.sorted_are_apart.ensures.value ∙ ap are_apart c.deref.ensures.value ∙ apart_moved _ _ c.sort_unstable_by_key.ensures.permutation
+
+pub returns-clause-nothing : goal.returns-clause-nothing
+returns-clause-nothing c = nothing_moved_on c.sorted_are_apart.result _ _ c.sort_unstable_by_key.ensures.permutation (subst (λ xs. OnTrue c.sorted_are_apart.result (ShareNothing xs)) c.deref.ensures.value c.sorted_are_apart.ensures.nothing)

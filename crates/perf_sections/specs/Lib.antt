@@ -1,0 +1,15 @@
+pub mod Numbers
+pub mod Sections
+pub mod Opens
+pub mod Heads
+pub mod Features
+pub mod IdSections
+pub mod Attributes
+pub mod IdTables
+pub mod IdPlaces
+pub mod Opened
+pub mod KernelNames
+pub mod Descriptions
+pub mod Names
+pub mod NamePlaces
+pub mod Messages

@@ -1,6 +1,0 @@
-use Rattle.std.proofs.Common.{sym}
-use Rattle.perf_types.proofs.Blocks.{length-entries_left}
-use Rattle.perf_types.proofs.group_iter.GroupIterExactSizeIterator.len.Goals as goal
-
-pub returns-clause-value : goal.returns-clause-value
-returns-clause-value c = sym (length-entries_left c.args.self.now)

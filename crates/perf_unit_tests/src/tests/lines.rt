@@ -1,0 +1,27 @@
+//! The lines of `perfrec`.
+
+use perf_event_data::Record;
+use perf_event_data::parse::ParseResult;
+use perf_event_data::sys::perf_event_header;
+use perf_lines::line::line_of;
+use perf_test_helpers::texts::WriteLine;
+use std::alloc::AllocError;
+
+/// Writes the lines of `perfrec`.
+#[derive(Copy, Clone)]
+pub struct Perfrec;
+
+impl WriteLine for Perfrec {
+    fn write_line(
+        &self,
+        text: &mut String,
+        index: usize,
+        header: &perf_event_header,
+        answer: &ParseResult<Record<'_>>,
+    ) -> Result<(), AllocError> {
+        match line_of(*text.allocator(), index, header, answer) {
+            Ok(line) => text.push_str(line.as_str()),
+            Err(_) => Err(AllocError),
+        }
+    }
+}
