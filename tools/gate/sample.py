@@ -10,6 +10,7 @@ crate's out/, the first argument of an interpreter, or the process's own name. A
 time of the whole command, by the clock and on processors. With --log FILE the tables so far are also written there each
 minute. A process of which less than a second is seen counts in the whole alone. The status is that of the command.
 """
+import itertools
 import os
 import re
 import resource
@@ -61,8 +62,9 @@ def kind_of(words, folder):
 
 def other_of(name, words):
     """What another process runs."""
-    script = next((it for it in words[1:] if it and not it.startswith("-")), "")
-    is_script = INTERPRETERS.match(name) and script and "-c" not in words[1:3]
+    options = list(itertools.takewhile(lambda it: it.startswith("-"), words[1:]))
+    script = next(iter(words[1 + len(options):]), "")
+    is_script = INTERPRETERS.match(name) and script and "-c" not in options
     return os.path.basename(script if is_script else words[0] if words else "") or name
 
 

@@ -5,7 +5,6 @@ mod checks;
 mod faults;
 mod generated;
 mod hints;
-mod lines;
 mod sample_counts;
 mod streams;
 mod whole_frames;

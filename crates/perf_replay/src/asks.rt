@@ -1,6 +1,5 @@
 //! What a parser is asked for, one thing after another, and the results as text.
 
-use crate::lines::Perfrec;
 use perf_event_data::endian::{Dynamic, Endian, Native};
 use perf_event_data::parse::{
     Parse, ParseBuf, ParseBufCursor, ParseConfig, ParseRecord, ParseRegisters, ParseResult, Parser,
@@ -19,6 +18,7 @@ use perf_test_helpers::texts::{
     write_last_record, write_values,
 };
 use perf_test_inputs::configurations::write_config;
+use perf_test_lines::Perfrec;
 use std::alloc::{AllocError, Global};
 use std::fmt::Debug;
 use std::io::BufReader;

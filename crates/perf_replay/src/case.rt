@@ -1,7 +1,6 @@
 //! A case of the list.
 
 use crate::asks::{text_after_attribute, text_of_calls};
-use crate::lines::Perfrec;
 use crate::perfrec;
 use anyhow::{Context, Result, bail};
 use perf_event_data::endian::Dynamic;
@@ -10,6 +9,7 @@ use perf_test_helpers::everywhere::add_other;
 use perf_test_helpers::reasons::reasons;
 use perf_test_helpers::runs::{runs_everywhere, text_of_records};
 use perf_test_helpers::sample_bytes::{Part, frames, put_parts};
+use perf_test_lines::Perfrec;
 use std::alloc::{AllocError, Global};
 
 /// What the lines of a case have set so far.

@@ -29,7 +29,6 @@
 
 mod asks;
 mod case;
-mod lines;
 mod perfrec;
 
 use crate::case::Case;

@@ -4,7 +4,6 @@ mod bodies;
 mod cases;
 mod checks;
 mod closures;
-mod lines;
 mod metadata;
 mod orders;
 mod own_types;

@@ -143,6 +143,20 @@ fn push_numbers(
     Ok(())
 }
 
+// The bytes of numbers and of more, with changes.
+fn bytes_of(
+    alloc: Global,
+    words: &[u64],
+    more: &[u64],
+    changes: &[(usize, u64)],
+    is_big: bool,
+) -> Result<Vec<u8>, AllocError> {
+    let mut bytes = Vec::new(alloc);
+    push_numbers(&mut bytes, words, changes, is_big)?;
+    push_numbers(&mut bytes, more, changes, is_big)?;
+    Ok(bytes)
+}
+
 /// The bytes of numbers and of more, with changes: the places of some, and other numbers. The lowest byte of
 /// each is first.
 pub fn little(
@@ -151,10 +165,7 @@ pub fn little(
     more: &[u64],
     changes: &[(usize, u64)],
 ) -> Result<Vec<u8>, AllocError> {
-    let mut bytes = Vec::new(alloc);
-    push_numbers(&mut bytes, words, changes, false)?;
-    push_numbers(&mut bytes, more, changes, false)?;
-    Ok(bytes)
+    bytes_of(alloc, words, more, changes, false)
 }
 
 /// The same with the highest byte first.
@@ -164,8 +175,5 @@ pub fn big(
     more: &[u64],
     changes: &[(usize, u64)],
 ) -> Result<Vec<u8>, AllocError> {
-    let mut bytes = Vec::new(alloc);
-    push_numbers(&mut bytes, words, changes, true)?;
-    push_numbers(&mut bytes, more, changes, true)?;
-    Ok(bytes)
+    bytes_of(alloc, words, more, changes, true)
 }

@@ -3,13 +3,13 @@
 ghost use Rattle.std.specs.Prelude.{◌≡◌, true, false, None, Some, take, nat_lt};
 
 use crate::tests::checks::check_text;
-use crate::tests::lines::Perfrec;
 use anyhow::anyhow;
 use perf_event_data::endian::Little;
 use perf_event_data::parse::{
     ErrorKind, ParseBuf, ParseBufChunk, ParseConfig, ParseError, ParseResult, Parser,
 };
 use perf_test_helpers::runs::{error_of_record, fault_of_run, text_of_runs};
+use perf_test_lines::Perfrec;
 use std::alloc::{AllocError, Global};
 use std::io;
 use std::io::{BufReader, Read};

@@ -2,7 +2,6 @@
 //! result.
 
 use crate::tests::checks::check_text;
-use crate::tests::lines::Perfrec;
 use perf_event_data::endian::{Dynamic, Native};
 use perf_event_data::parse::{ErrorKind, ParseConfig, ParseResult};
 use perf_event_data::sys::perf_event_attr;
@@ -11,6 +10,7 @@ use perf_test_helpers::everywhere::OTHERS;
 use perf_test_helpers::reasons::Nothing;
 use perf_test_helpers::runs::differences;
 use perf_test_helpers::sample_bytes::{Part, put_parts};
+use perf_test_lines::Perfrec;
 use std::alloc::{AllocError, Global};
 use std::process::Abort;
 

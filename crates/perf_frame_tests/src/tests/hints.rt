@@ -4,13 +4,13 @@
 ghost use Rattle.std.specs.Prelude.{false, None, []};
 
 use crate::tests::checks::check_text;
-use crate::tests::lines::Perfrec;
 use bitflags::Flags;
 use perf_event_data::SampleFlags;
 use perf_event_data::endian::Little;
 use perf_event_data::parse::{ParseBuf, ParseBufChunk, ParseError, ParseResult};
 use perf_test_helpers::attributes::attribute;
 use perf_test_helpers::runs::text_of_runs_under;
+use perf_test_lines::Perfrec;
 use std::alloc::{AllocError, Global};
 use std::cell::Cell;
 use std::process::Abort;

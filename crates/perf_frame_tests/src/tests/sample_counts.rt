@@ -1,7 +1,6 @@
 //! Samples that claim more than there is.
 
 use crate::tests::checks::check_text;
-use crate::tests::lines::Perfrec;
 use bitflags::Flags;
 use perf_event_data::parse::ParseBuf;
 use perf_event_data::sys::perf_event_attr;
@@ -11,6 +10,7 @@ use perf_test_helpers::runs::text_of_runs_under;
 use perf_test_helpers::sample_bytes::Part::{self, Bytes, U32, U64};
 use perf_test_helpers::sample_bytes::frames_of;
 use perf_test_inputs::orders::Counting;
+use perf_test_lines::Perfrec;
 use std::alloc::{AllocError, Global};
 use std::cell::Cell;
 use std::io::BufReader;

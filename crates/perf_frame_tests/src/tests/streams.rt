@@ -1,10 +1,10 @@
 //! Whole streams.
 
 use crate::tests::checks::check_text;
-use crate::tests::lines::Perfrec;
 use perf_event_data::endian::{Big, Dynamic, Endian, Little, Native};
 use perf_event_data::sys::perf_event_attr;
 use perf_test_helpers::runs::runs_everywhere;
+use perf_test_lines::Perfrec;
 use std::alloc::{AllocError, Global};
 use std::process::Abort;
 use std::test::Fail;

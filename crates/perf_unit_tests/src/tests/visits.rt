@@ -1,7 +1,6 @@
 //! Visits of frames.
 
 use crate::tests::cases::{Case, Request, check_case};
-use crate::tests::lines::Perfrec;
 use crate::tests::partial_visits::{Mappings, OwnCalls};
 use bitflags::Flags;
 use perf_event_data::endian::{Endian, Little};
@@ -12,6 +11,7 @@ use perf_test_helpers::attributes::ids_attribute;
 use perf_test_helpers::everywhere::parser_of;
 use perf_test_helpers::frames::{BY_BUILD_ID, zero_frames};
 use perf_test_helpers::texts::{write_output, write_visited};
+use perf_test_lines::Perfrec;
 use std::alloc::{AllocError, Global};
 use std::cell::Cell;
 use std::test::Fail;

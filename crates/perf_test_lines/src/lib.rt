@@ -1,4 +1,5 @@
-//! The lines of `perfrec`.
+//! The lines of `perfrec`, as the tests and `perf_replay` write them.
+#![tactic(auto)]
 
 use perf_event_data::Record;
 use perf_event_data::parse::ParseResult;
