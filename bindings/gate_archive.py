@@ -47,7 +47,7 @@ def make_archives(folder, targets):
     for the others, in a folder of this run alone."""
     rtlib = load_rt()
     crate = crate_of(rtlib, os.getcwd(), CRATE)
-    words = crate.words(["--jobs", str(min(len(os.sched_getaffinity(0)), 2))], keeps=False)
+    words = crate.words(["--jobs", "1"], keeps=False)
     with tempfile.TemporaryDirectory() as kept:
         words += ["--incremental", kept, "--toolchain", f"{rtlib.KIT}/toolchain"]
         for place, (target, compiler, name) in enumerate(archives(targets)):

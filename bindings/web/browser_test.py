@@ -57,6 +57,15 @@ if (PerformanceObserver.supportedEntryTypes.includes("longtask")) {
     }, 10);
 }
 """
+# Work like that of opening a file: objects are made, sorted and found. It returns the milliseconds that it takes.
+YARDSTICK = """
+const began = performance.now();
+const rows = Array.from({ length: 300000 }, (_, index) => ({ key: Math.imul(index, 0x9E3779B1) >>> 0 }));
+rows.sort((first, second) => first.key - second.key);
+const found = new Map(rows.map((row) => [row.key, row]));
+return rows.every((row) => found.get(row.key) === row) ? performance.now() - began : 0;
+"""
+YARDSTICK_TIME = 300
 OPENED = """
 const opened = document.documentElement.dataset.opened;
 const notice = document.getElementById("notice");
@@ -752,20 +761,27 @@ def measured(page):
     return took, page.browser.run("return longest")
 
 
+def slowness(page):
+    """How many times longer than on the machine of docs/VIEW.md a piece of work takes in the browser; at least 1."""
+    page.browser.go("about:blank")
+    return max(1, min(page.browser.run(YARDSTICK) for _ in range(5)) / YARDSTICK_TIME)
+
+
 def speed(page):
     """A large file opens within 5 seconds, and no task of the main thread takes 200 ms, also in the views."""
-    is_busy = os.getloadavg()[0] > os.cpu_count() / 2
+    # (on a slower machine, within as much more)
+    has_limits = page.browser.NAME == "Chromium" and os.getloadavg()[0] <= os.cpu_count() / 2
+    slow = slowness(page) if has_limits else 1
     runs = [measured(page)]
     # The best of three runs, if the first is too slow, as another program may have been at work.
-    while len(runs) < 3 and not is_busy and (runs[-1][0] >= 5 or runs[-1][1] >= 200):
+    while has_limits and len(runs) < 3 and (runs[-1][0] >= 5 * slow or runs[-1][1] >= 200 * slow):
         runs.append(measured(page))
     took, longest = (min(times) for times in zip(*runs))
-    print(f"    {page.large.stat().st_size / 1e6:.0f} MB in {took:.1f} s, longest task {longest:.0f} ms")
-    if is_busy:
-        return "the limits of these times, as the machine has other work"
-    if page.browser.NAME == "Chromium":
-        true(took < 5, f"it takes {took:.1f} s")
-        true(longest < 200, f"a task takes {longest:.0f} ms")
+    print(f"    {page.large.stat().st_size / 1e6:.0f} MB in {took:.1f} s, longest task {longest:.0f} ms, slowness {slow:.2f}")
+    if not has_limits:
+        return "the limits of these times, which are Chromium's, if the machine has no other work"
+    true(took < 5 * slow, f"it takes {took:.1f} s")
+    true(longest < 200 * slow, f"a task takes {longest:.0f} ms")
     return None
 
 
