@@ -65,7 +65,7 @@ rows.sort((first, second) => first.key - second.key);
 const found = new Map(rows.map((row) => [row.key, row]));
 return rows.every((row) => found.get(row.key) === row) ? performance.now() - began : 0;
 """
-YARDSTICK_TIME = 300
+YARDSTICK_TIME = 165
 OPENED = """
 const opened = document.documentElement.dataset.opened;
 const notice = document.getElementById("notice");
@@ -764,7 +764,7 @@ def measured(page):
 def slowness(page):
     """How many times longer than on the machine of docs/VIEW.md a piece of work takes in the browser; at least 1."""
     page.browser.go("about:blank")
-    return max(1, min(page.browser.run(YARDSTICK) for _ in range(5)) / YARDSTICK_TIME)
+    return max(1, min(page.browser.run(YARDSTICK) for _ in range(12)) / YARDSTICK_TIME)
 
 
 def speed(page):

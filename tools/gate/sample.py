@@ -65,7 +65,8 @@ def other_of(name, words):
     options = list(itertools.takewhile(lambda it: it.startswith("-"), words[1:]))
     script = next(iter(words[1 + len(options):]), "")
     is_script = INTERPRETERS.match(name) and script and "-c" not in options
-    return os.path.basename(script if is_script else words[0] if words else "") or name
+    # (a browser's process may have all of its words in the first)
+    return os.path.basename(script if is_script else words[0].partition(" ")[0] if words else "") or name
 
 
 class Times:
