@@ -57,15 +57,25 @@ if (PerformanceObserver.supportedEntryTypes.includes("longtask")) {
     }, 10);
 }
 """
-# Work like that of opening a file: objects are made, sorted and found. It returns the milliseconds that it takes.
+# A piece of work for Node: numbers are sorted, and mixed. It prints the milliseconds that it takes, as a median (the sum is
+# used, or it would not be made), and what those are on a machine that is a quarter faster than that of docs/GATE.md.
 YARDSTICK = """
-const began = performance.now();
-const rows = Array.from({ length: 300000 }, (_, index) => ({ key: Math.imul(index, 0x9E3779B1) >>> 0 }));
-rows.sort((first, second) => first.key - second.key);
-const found = new Map(rows.map((row) => [row.key, row]));
-return rows.every((row) => found.get(row.key) === row) ? performance.now() - began : 0;
+const numbers = new Uint32Array(1 << 21);
+const work = () => {
+    const began = performance.now();
+    numbers.forEach((_, index) => { numbers[index] = Math.imul(index, 0x9E3779B1); });
+    numbers.sort();
+    let sum = 0;
+    for (let round = 0; round < 20; round++) {
+        for (const number of numbers) {
+            sum = Math.imul(sum ^ number, 0x01000193);
+        }
+    }
+    return performance.now() - began + (sum & 1);
+};
+console.log(Array.from({ length: 5 }, work).sort((first, second) => first - second)[2]);
 """
-YARDSTICK_TIME = 165
+YARDSTICK_TIME = 400
 OPENED = """
 const opened = document.documentElement.dataset.opened;
 const notice = document.getElementById("notice");
@@ -761,17 +771,17 @@ def measured(page):
     return took, page.browser.run("return longest")
 
 
-def slowness(page):
-    """How many times longer than on the machine of docs/VIEW.md a piece of work takes in the browser; at least 1."""
-    page.browser.go("about:blank")
-    return max(1, min(page.browser.run(YARDSTICK) for _ in range(12)) / YARDSTICK_TIME)
+def slowness():
+    """How many times longer than on a fast machine a piece of work takes here; at least 1."""
+    ran = subprocess.run(["node", "-e", YARDSTICK], capture_output=True, text=True, check=True)
+    return max(1, float(ran.stdout) / YARDSTICK_TIME)
 
 
 def speed(page):
     """A large file opens within 5 seconds, and no task of the main thread takes 200 ms, also in the views."""
     # (on a slower machine, within as much more)
     has_limits = page.browser.NAME == "Chromium" and os.getloadavg()[0] <= os.cpu_count() / 2
-    slow = slowness(page) if has_limits else 1
+    slow = slowness() if has_limits else 1
     runs = [measured(page)]
     # The best of three runs, if the first is too slow, as another program may have been at work.
     while has_limits and len(runs) < 3 and (runs[-1][0] >= 5 * slow or runs[-1][1] >= 200 * slow):
