@@ -2,13 +2,14 @@
 """Runs the tests of the crate `perf_out_of_memory` with no allocation refused, and with the first of each test refused, the
 second, the third, the fourth and the sixteenth.
 
-All are tried by one `rt try` that refuses the sixteenth of each process: each test stands there six times, and makes 16 - N
-requests before, if its request N is to be refused. A test of a table stands there for each of its rows. Records of a slice are the same, and a sample with only raw bytes makes one allocation.
-With a buffered reader, which makes the first allocation, a run over nothing makes none, and one that lists a sample
-allocates capacity for the frame, then for the sample, and then for its call chain. If capacity for one answer is
-refused, it is requested again. The fourth request of a report is for the line of its second frame, or for the list in
-it: the first line is printed. The sixteenth comes after the calls of each row of `requests` and each test of `reports`: how
-many are granted before it tells how many requests the calls made.
+All are tried by one `rt try` that refuses the sixteenth of each process: each test stands there six times, and makes 16
+- N requests before, if its request N is to be refused. A test of a table stands there for each of its rows. Records of
+a slice are the same, and a sample with only raw bytes makes one allocation. With a buffered reader, which makes the
+first allocation, a run over nothing makes none, and one that lists a sample allocates capacity for the frame, then for
+the sample, and then for its call chain. If capacity for one answer is refused, it is requested again. The fourth
+request of a report is for the line of its second frame, or for the list in it: the first line is printed. The sixteenth
+comes after the calls of each row of `requests` and each test of `reports`: how many are granted before it tells how
+many requests the calls made.
 """
 
 import re
@@ -46,7 +47,8 @@ LINES = {
 }
 # How many requests the calls of each test make, at most. A list of records has capacity for all frames that are shown at
 # once; a reader makes a request of its own. A sample with a list needs one for it, and as a record one for its box; in the
-# place of another, only for a list that is longer than those before it. A parser's list that does not fit has capacity for as many items as there are bytes.
+# place of another, only for a list that is longer than those before it. A parser's list that does not fit has capacity
+# for as many items as there are bytes.
 MOST = {
     "single numbers": 0,
     "records without a list": 0,
