@@ -5,8 +5,9 @@
 
 They are FOLDER/NAME.1 and FOLDER/completions/NAME. All is taken from the program's sources, so it is what the program
 does: the page from the head of main.rt, and what `--help` prints from USAGE; the completion from the first line of
-USAGE. A program with `clap` has no USAGE: its words are those of each `Command` and `Arg` in its files, and its usage is
-what the head has of it as code. The benchmark is no such program, and those without words have no page.
+USAGE. A program with `clap` has no USAGE: its words are those of each `Command`, `flag`, `option` and `choice` in the
+files of NAME_cli, and its usage is what the head has of it as code. The benchmark is no such program, and those without
+words have no page.
 """
 import re
 import sys
@@ -54,8 +55,8 @@ class Program:
         self.purpose, *self.paragraphs = [re.sub(r"\s+", " ", part) for part in head.strip().split("\n\n")]
         self.options, self.help = {}, []
         if "use clap::" in text:
-            others = [it.read_text() for it in sorted(path.parent.rglob("*.rt")) if it != path]
-            self.read_clap("\n".join([text, *others]), re.sub(r"\s+", " ", head))
+            files = sorted((path.parents[2] / f"{self.name}_cli").rglob("*.rt"))
+            self.read_clap("\n".join(it.read_text() for it in files), re.sub(r"\s+", " ", head))
         else:
             self.read_usage(text)
 
@@ -73,13 +74,10 @@ class Program:
         self.usage = [*re.findall(rf"`({self.name} [^`]*)`", head), f"{self.name} --help"]
         commands = [name for name in re.findall(r'Command::new\(alloc, "(\w+)"\)', text) if name != self.name]
         self.places = [[*commands, "--help"]]
-        for argument in text.split("Arg::new(")[1:]:
-            long, value, values, about = (re.search(form, argument.partition(";\n")[0]) for form in (
-                r'\.long\("(.*?)"\)', r'\.value_name\("(.*?)"\)', r"\.value_parser\(\[(.*?)\]", r'\.help\("(.*?)"\)'))
-            if long:
-                words = re.findall(r'"(.*?)"', values[1] if values else "")
-                shown = "|".join(words) or (value[1] if value else "")
-                self.options["--" + long[1]] = words, shown, about[1]
+        words = r'\((?:\s*option\()?\s*alloc,\s*"(.*?)",\s*(?:"([^"]*)",\s*)?"([^"]*)",?\s*\)(?:,\s*&\[(.*?)\])?'
+        for long, value, about, choices in sorted(re.findall(r"\b(?:flag|option|choice)" + words, text)):
+            values = re.findall(r'"(.*?)"', choices)
+            self.options["--" + long] = values, "|".join(values) or value, about
 
 
 def roff(text):

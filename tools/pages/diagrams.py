@@ -39,6 +39,7 @@ RETURNS = {
     "perf_reports": "lines of tasks and samples, counts",
     "perf_data_text": "the text of a perf.data file",
     "perf_summary": "what is counted in one",
+    "perf_data_cli": "its commands, their words",
     "perf_data": "that text",
     "perfrec": "a line for each frame",
     "perf_tasks": "lines about tasks",

@@ -1,43 +1,9 @@
-//! The words that choose samples.
+//! Which samples the words choose.
 
-use clap::{Arg, ArgMatches, Command, value_parser};
+use clap::ArgMatches;
 use perf_walk::{Filter, nanoseconds};
 use std::alloc::{AllocError, Global};
 use std::io;
-
-/// Adds the words that choose samples, which lines of stacks no longer have.
-pub fn filter_words<'a>(alloc: Global, command: Command<'a>) -> Result<Command<'a>, AllocError> {
-    let event = Arg::new(alloc, "event")
-        .long("event")
-        .value_name("NAME")
-        .help("Only samples of events with this name");
-    let pid = Arg::new(alloc, "pid")
-        .long("pid")
-        .value_name("PID,..")
-        .value_parser(value_parser!(u32))
-        .value_delimiter(',')
-        .help("Only samples of these processes");
-    let comm = Arg::new(alloc, "comm")
-        .long("comm")
-        .alias("comms")?
-        .value_name("NAME,..")
-        .value_delimiter(',')
-        .help("Only samples of threads that have one of these names then");
-    let time = Arg::new(alloc, "time")
-        .long("time")
-        .value_name("FROM,TO")
-        .help("Only samples from one time to another, in seconds; either may be absent");
-    command
-        .arg(of_recordings(event)?)?
-        .arg(of_recordings(pid)?)?
-        .arg(of_recordings(comm)?)?
-        .arg(of_recordings(time)?)
-}
-
-// A word that makes no sense of lines of stacks.
-fn of_recordings<'a>(word: Arg<'a>) -> Result<Arg<'a>, AllocError> {
-    word.conflicts_with("merge")?.conflicts_with("folded")
-}
 
 /// What the words choose.
 #[derive(Drop)]

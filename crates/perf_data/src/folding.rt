@@ -1,62 +1,15 @@
 //! The commands over folded stacks.
 
 use crate::ending::report;
-use crate::filters::{Chosen, filter_words, refuse_times};
-use crate::{bytes_of, file_word, note_progress};
-use clap::{Arg, ArgAction, ArgMatches, Command};
+use crate::filters::{Chosen, refuse_times};
+use crate::{bytes_of, note_progress};
+use clap::ArgMatches;
 use perf_fold::{Choice, Weight, write_fold};
 use perf_folded::{Form, TextError, status_after, write_sum};
 use perf_lines::outcome::Outcome;
 use perf_stacks::Frames;
 use perf_walk::Filter;
-use std::alloc::{AllocError, Global};
 use std::io;
-
-/// The words of `fold`.
-pub fn fold_words<'a>(alloc: Global) -> Result<Command<'a>, AllocError> {
-    let merge = Arg::new(alloc, "merge")
-        .long("merge")
-        .action(ArgAction::SetTrue)
-        .help("Adds up files of such lines, in place of a file of `perf record`");
-    let command = Command::new(alloc, "fold")
-        .about("Prints a line for each stack: its frames from the outermost on, and its count")
-        .arg(merge)?;
-    stack_words(alloc, command)?.arg(file_word(alloc).num_args(1..))
-}
-
-// Adds the words that choose what is folded of a file of `perf record`.
-fn stack_words<'a>(alloc: Global, command: Command<'a>) -> Result<Command<'a>, AllocError> {
-    let frames = Arg::new(alloc, "frames")
-        .long("frames")
-        .value_name("NAMES")
-        .value_parser(["offsets", "file"].as_slice())
-        .default_value("offsets")
-        .help("What frames are named by: files and offsets in them, or files alone");
-    let weight = Arg::new(alloc, "weight")
-        .long("weight")
-        .value_name("WEIGHT")
-        .value_parser(["samples", "period"].as_slice())
-        .default_value("samples")
-        .help("What is counted: samples, or their periods");
-    filter_words(alloc, command.arg(frames)?.arg(weight)?)
-}
-
-/// The words of `flame`.
-pub fn flame_words<'a>(alloc: Global) -> Result<Command<'a>, AllocError> {
-    let folded = Arg::new(alloc, "folded")
-        .long("folded")
-        .action(ArgAction::SetTrue)
-        .help("FILE has lines of stacks, as `fold` prints them");
-    let inverted = Arg::new(alloc, "inverted")
-        .long("inverted")
-        .action(ArgAction::SetTrue)
-        .help("Draws from the innermost frames on");
-    let command = Command::new(alloc, "flame")
-        .about("Prints a flame graph, an SVG")
-        .arg(folded)?
-        .arg(inverted)?;
-    stack_words(alloc, command)?.arg(file_word(alloc))
-}
 
 /// Prints the folded stacks of the file that the words of `fold` name, or the sums of files of such,
 /// and returns the exit status.

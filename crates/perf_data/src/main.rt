@@ -31,17 +31,12 @@ mod scripting;
 mod summing;
 
 use crate::ending::report;
-use clap::{Arg, ArgAction, ArgMatches, Command};
+use clap::ArgMatches;
+use perf_data_cli::program;
 use perf_data_text::run::{Show, run, status_after};
-use std::alloc::{AllocError, Global};
 use std::io::{IsTerminal, Read};
 use std::process::ExitCode;
 use std::{env, fs, io};
-
-// What is printed after the words.
-const STATUSES: &str = "FILE is what `perf record` writes; `-` is standard input.
-Status: 0 if no frame or feature is refused, 1 if one is, 2 if the file cannot be opened
-or the words are wrong, 3 if reading, writing or an allocation fails.";
 
 fn main(rt: HostRuntime) -> ExitCode {
     match try_main(&rt) {
@@ -57,54 +52,13 @@ fn main(rt: HostRuntime) -> ExitCode {
 // Does what the words ask for, and returns the exit status.
 fn try_main(rt: &HostRuntime) -> io::Result<u8> {
     let words: Vec<String> = env::args(rt)?.collect(rt.alloc())?;
-    let program = program(rt.alloc())?;
-    match program.try_get_matches_from(words.as_slice()) {
+    match program(rt.alloc())?.try_get_matches_from(words.as_slice()) {
         Ok(matches) => run_command(rt, &matches),
         Err(error) => {
             error.print(rt)?;
             Ok(if error.use_stderr() { 2 } else { 0 })
         }
     }
-}
-
-// The words of the program.
-fn program<'a>(alloc: Global) -> Result<Command<'a>, AllocError> {
-    let order = Arg::new(alloc, "order")
-        .long("order")
-        .value_name("ORDER")
-        .value_parser(["file", "time"].as_slice())
-        .default_value("file")
-        .help("In which order");
-    let header = Arg::new(alloc, "header")
-        .long("header")
-        .action(ArgAction::SetTrue)
-        .help("Also prints the machine, its kernel, the command, build ids, and sample times");
-    let events = Command::new(alloc, "events")
-        .about("Prints a line for each event")
-        .arg(header)?
-        .arg(file_word(alloc))?;
-    let dump = Command::new(alloc, "dump")
-        .about("Prints a line for each frame")
-        .arg(order)?
-        .arg(file_word(alloc))?;
-    Command::new(alloc, "perf_data")
-        .about("Prints what is inside a file of `perf record`.")
-        .after_help(STATUSES)
-        .subcommand_required(true)
-        .disable_help_subcommand(true)
-        .subcommand(events)?
-        .subcommand(dump)?
-        .subcommand(summing::summary_words(alloc)?)?
-        .subcommand(scripting::script_words(alloc)?)?
-        .subcommand(folding::fold_words(alloc)?)?
-        .subcommand(folding::flame_words(alloc)?)
-}
-
-// The word for the file.
-pub(crate) fn file_word<'a>(alloc: Global) -> Arg<'a> {
-    Arg::new(alloc, "FILE")
-        .required(true)
-        .help("A file, or - for standard input")
 }
 
 // What is shown for a command and its words.

@@ -1,31 +1,11 @@
 //! The command `script`.
 
 use crate::ending::report;
-use crate::filters::{Chosen, filter_words, refuse_times};
-use crate::{bytes_of, file_word, note_progress};
-use clap::{Arg, ArgAction, ArgMatches, Command};
+use crate::filters::{Chosen, refuse_times};
+use crate::{bytes_of, note_progress};
+use clap::ArgMatches;
 use perf_script::{Fields, Style, is_field_name, status_after, write_script};
-use std::alloc::{AllocError, Global};
 use std::io;
-
-/// The words of `script`.
-pub fn script_words<'a>(alloc: Global) -> Result<Command<'a>, AllocError> {
-    let fields = Arg::new(alloc, "fields")
-        .short('F')
-        .long("fields")
-        .value_name("FIELD,..")
-        .value_delimiter(',')
-        .help("Only these fields: comm, pid, tid, cpu, time, period, event, ip and dso");
-    let side_band = Arg::new(alloc, "side-band")
-        .long("side-band")
-        .action(ArgAction::SetTrue)
-        .help("Also a line for each record of tasks, mappings, losses, switches and symbols");
-    let command = Command::new(alloc, "script")
-        .about("Prints the samples by time, as `perf script` does")
-        .arg(fields)?
-        .arg(side_band)?;
-    filter_words(alloc, command)?.arg(file_word(alloc))
-}
 
 // Which fields the words choose: all without any. The first word that is none is refused.
 fn fields_of<'a>(words: &ArgMatches<'a>) -> Result<Fields, &'a str> {
