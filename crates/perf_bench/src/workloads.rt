@@ -8,8 +8,8 @@ use anyhow::Result;
 use perf_event_data::endian::{Dynamic, Endian, Little, Native};
 use perf_event_data::parse::{ParseBuf, ParseConfig, Parser};
 use perf_event_data::{PieceBuf, Run, RunEnd, read_records};
-use perf_lines::run::run;
 use perf_reports::printing::{Report, print_recording};
+use perf_run::run;
 use std::alloc::Global;
 use std::io::BufReader;
 

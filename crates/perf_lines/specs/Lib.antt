@@ -2,6 +2,5 @@ pub mod Fields
 pub mod SampleText
 pub mod Text
 pub mod Outcomes
-pub mod Prelude
 pub mod FileText
 pub mod FileLines

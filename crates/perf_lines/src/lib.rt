@@ -1,11 +1,9 @@
-//! Records as lines of text, and the engine of the program `perfrec`, which writes the records of a
-//! reader to a writer.
+//! Records, and frames of files, as words of lines of text.
 #![tactic(auto)]
 
 mod fields;
 pub mod line;
 pub mod outcome;
 pub mod output;
-mod records;
-pub mod run;
+pub mod records;
 mod sample;

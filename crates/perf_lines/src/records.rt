@@ -9,14 +9,16 @@ ghost use Rattle.perf_lines.specs.Fields.{with_spaces, with_commas};
 use crate::fields::{push_fields, push_hex, push_numbers};
 use crate::sample::push_sample;
 use bitflags::Flags;
-use perf_event_data::{
-    Aux, AuxOutputHwId, BpfEvent, CGroup, Comm, Exit, ITraceStart, KSymbol, Lost, LostSamples,
-    Mmap, Mmap2, NamespaceEntry, Namespaces, Read, Record, SwitchCpuWide, TextPoke, Throttle,
-};
+use perf_records::record::Record;
 use perf_text::strip::Strip;
+use perf_types::{
+    Aux, AuxOutputHwId, BpfEvent, CGroup, Comm, Exit, ITraceStart, KSymbol, Lost, LostSamples,
+    Mmap, Mmap2, NamespaceEntry, Namespaces, Read, SwitchCpuWide, TextPoke, Throttle,
+};
 use std::alloc::AllocError;
 
-pub(crate) fn push_record(text: &mut String, found: &Record) -> Result<(), AllocError>
+/// Appends the name of a record and its fields, each after a space.
+pub fn push_record(text: &mut String, found: &Record) -> Result<(), AllocError>
     ensures { OnOk result (string_bytes text.new
         ≡ string_bytes text.old ++ with_spaces (lines.record_words (value.record_value found.now))) }
 {

@@ -9,8 +9,11 @@ ghost use Rattle.perf_lines.specs.SampleText as lines;
 
 use crate::fields::{push_bytes, push_items, push_list, push_number, push_numbers, push_present};
 use bitflags::Flags;
-use perf_event_data::{BranchEntry, DataSource, GroupEntry, ReadGroup, Registers, Sample, Txn};
+use perf_counters::{GroupEntry, ReadGroup};
+use perf_sample_types::registers::Registers;
+use perf_sample_types::sample::Sample;
 use perf_text::strip::Strip;
+use perf_words::{BranchEntry, DataSource, Txn};
 use std::alloc::AllocError;
 
 pub(crate) fn push_sample(text: &mut String, sample: &Sample) -> Result<(), AllocError>

@@ -4,7 +4,7 @@ ghost use Rattle.std.specs.Prelude.{◌<◌};
 
 use anyhow::{Context, Result};
 use perf_event_data::endian::{Big, Endian, Little, Native};
-use perf_lines::run::run;
+use perf_run::run;
 use perf_text::args::command;
 use perf_text::command::Command;
 use perf_text::order::OrderName;

@@ -4,7 +4,7 @@ use perf_event_data::Record;
 use perf_event_data::endian::Little;
 use perf_event_data::parse::{Parse, ParseConfig, ParseResult, Parser};
 use perf_event_data::sys::{perf_event_attr, perf_event_header};
-use perf_lines::line::line_of;
+use perf_run::line_of;
 use std::alloc::Global;
 use std::process::Abort;
 

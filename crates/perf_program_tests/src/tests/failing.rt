@@ -10,7 +10,7 @@ use crate::tests::runs::{
 use perf_event_data::endian::Little;
 use perf_lines::outcome::Outcome;
 use perf_lines::output::write_and_flush;
-use perf_lines::run::run;
+use perf_run::run;
 use perf_test_inputs::bytes::{FIVE_LOST, TWO};
 use perf_test_inputs::orders::Counting;
 use perf_test_inputs::readers::Failing;

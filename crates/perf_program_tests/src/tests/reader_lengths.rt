@@ -6,7 +6,7 @@ use crate::tests::checks::{check_same, check_written};
 use crate::tests::runs::{TEXT, TWO_AFTER_72};
 use perf_event_data::endian::Little;
 use perf_lines::outcome::Outcome;
-use perf_lines::run::run;
+use perf_run::run;
 use perf_test_inputs::bytes::TWO;
 use std::cell::Cell;
 use std::io;

@@ -3,7 +3,7 @@
 use crate::tests::checks::check_written;
 use perf_event_data::endian::Endian;
 use perf_lines::outcome::Outcome;
-use perf_lines::run::run;
+use perf_run::run;
 use std::io::Read;
 use std::process::Abort;
 

@@ -1,5 +1,0 @@
-use Rattle.std.proofs.Common.{rules}
-use Rattle.perf_lines.proofs.run.push_last.Goals as goal
-
-pub returns-then-any_refused : goal.returns-then-any_refused
-returns-then-any_refused c = search rules steps 200000

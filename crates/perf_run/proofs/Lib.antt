@@ -1,0 +1,4 @@
+mod Numbered
+mod Progress
+mod Endings
+mod Ended
