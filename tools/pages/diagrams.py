@@ -34,12 +34,14 @@ RETURNS = {
     "perf_stacks": "the names of their frames",
     "perf_folded": "folded stacks as text",
     "perf_fold": "the folded stacks of a file",
+    "perf_columns": "the columns of lines",
     "perf_script": "the text of samples",
     "perf_lines": "the lines of frames",
     "perf_run": "the text of a run",
-    "perf_reports": "lines of tasks and samples, counts",
+    "perf_reports": "lines of tasks, counts",
     "perf_data_text": "the text of a perf.data file",
-    "perf_summary": "what is counted in one",
+    "perf_tally": "what is counted in one",
+    "perf_summary": "its summary, as JSON too",
     "perf_data_cli": "its commands, their words",
     "perf_data": "that text",
     "perfrec": "a line for each frame",
@@ -50,8 +52,8 @@ RETURNS = {
 FACES = ("perf_event_data", "perf_event_c", "perf_file", "perf_history", "perf_flame")
 OTHERS = {
     "Examples and measurements": ["perf_uses", "perf_bench", "perf_file_bench"],
-    "Tests": ["perf_program_tests", "perf_unit_tests", "perf_frame_tests", "perf_file_tests", "perf_history_tests", "perf_flame_tests",
-              "perf_walk_tests", "perf_script_tests", "perf_out_of_memory", "perf_replay"],
+    "Tests": ["perf_program_tests", "perf_unit_tests", "perf_frame_tests", "perf_out_of_memory", "perf_replay"],
+    "Tests of files": ["perf_file_tests", "perf_history_tests", "perf_flame_tests", "perf_walk_tests", "perf_script_tests"],
     "Tests without a parser": ["perf_buffer_tests", "perf_value_tests"],
     "What tests share": ["perf_test_inputs", "perf_test_helpers", "perf_test_lines"],
 }

@@ -7,8 +7,6 @@ pub mod Groups
 pub mod Found
 pub mod Ways
 pub mod Blocks
-pub mod Appended
 pub mod NamespaceLists
 pub mod SideLines
 pub mod Parts
-mod Digits

@@ -16,9 +16,9 @@ use Rattle.perf_walk.specs.Plain.{plain, plain_name, plain_file, plain_place}
 use Rattle.perf_walk.specs.declared.calls.Call.{Call}
 use Rattle.perf_walk.proofs.PlainNames.{name_plain, place_plain}
 use Rattle.perf_words.specs.Bits.{has_bit}
-use Rattle.perf_script.specs.Columns.{right, task_column, address_column}
-use Rattle.perf_script.specs.Threads.{thread_name, name_width}
-use Rattle.perf_script.specs.Files.{file_name, place_name, shown_address}
+use Rattle.perf_columns.specs.Columns.{right, task_column, address_column}
+use Rattle.perf_columns.specs.Threads.{thread_name, name_width}
+use Rattle.perf_columns.specs.Files.{file_name, place_name, shown_address}
 use Rattle.perf_script.specs.Chains.{call_line, call_lines}
 use Rattle.perf_script.specs.Counters.{counters_text, counter_text, moved_text}
 use Rattle.perf_script.specs.Labels.{EventLabel, label_at, with_period}

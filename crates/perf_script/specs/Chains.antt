@@ -6,8 +6,8 @@ use Rattle.perf_history.specs.declared.changes.Change.{Change}
 use Rattle.perf_history.specs.declared.changes.Mode.{Mode}
 use Rattle.perf_history.specs.declared.places.Place.{Place}
 use Rattle.perf_walk.specs.declared.calls.Call.{Call}
-use Rattle.perf_script.specs.Columns.{address_column}
-use Rattle.perf_script.specs.Files.{place_column_if, shown_address}
+use Rattle.perf_columns.specs.Columns.{address_column}
+use Rattle.perf_columns.specs.Files.{place_column_if, shown_address}
 use Rattle.std.specs.Prelude.{Option}
 
 -- the line of an address, by what is there, which is named or not

@@ -3,8 +3,8 @@ use Rattle.std.specs.Prelude.{ℕ, Bool, ◌&&◌, List, [], ◌++◌, codes, if
 use Rattle.perf_history.specs.Histories.{name_of}
 use Rattle.perf_history.specs.declared.changes.Change.{Change}
 use Rattle.perf_words.specs.Bits.{has_bit}
-use Rattle.perf_script.specs.Columns.{task_column, cpu_column, time_column}
-use Rattle.perf_script.specs.Threads.{name_column}
+use Rattle.perf_columns.specs.Columns.{task_column, cpu_column, time_column}
+use Rattle.perf_columns.specs.Threads.{name_column}
 use Rattle.perf_script.specs.declared.fields.Fields.{Fields}
 use Rattle.perf_script.specs.declared.heads.Head.{Head}
 

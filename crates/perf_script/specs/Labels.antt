@@ -7,7 +7,7 @@ use Rattle.perf_sections.specs.declared.events.Event.{Event}
 use Rattle.perf_file.specs.declared.opening.Recording.{Recording}
 use Rattle.perf_walk.specs.Filters.{takes_event}
 use Rattle.perf_walk.specs.declared.filtering.Filter.{Filter}
-use Rattle.perf_script.specs.Columns.{right}
+use Rattle.perf_columns.specs.Columns.{right}
 use Rattle.perf_script.specs.declared.labels.Label.{Label}
 
 -- how an event is labelled, the period of its samples that contain none, which fields they have, and

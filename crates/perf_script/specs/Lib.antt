@@ -1,10 +1,6 @@
-pub mod Columns
 pub mod Fields
-pub mod Threads
-pub mod Files
 pub mod Chains
 pub mod Heads
-pub mod RecordText
 pub mod NamespaceText
 pub mod FlatLines
 pub mod SideBand

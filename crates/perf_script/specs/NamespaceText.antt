@@ -2,8 +2,8 @@
 use Rattle.std.specs.Prelude.{ℕ, suc, ◌%◌, ◌==◌, List, [], ◌∷◌, ◌++◌, codes, decimal, length, if◌then◌else◌}
 use Rattle.perf_types.specs.Namespaces.{network_index, uts_index, ipc_index, pid_index, user_index, cgroup_index}
 use Rattle.perf_types.specs.declared.namespaces.NamespaceEntry.{NamespaceEntry}
-use Rattle.perf_script.specs.Columns.{hex_number}
-use Rattle.perf_script.specs.RecordText.{pair}
+use Rattle.perf_columns.specs.Columns.{hex_number}
+use Rattle.perf_columns.specs.RecordText.{pair}
 
 -- the name of a kind of namespace, by its index in the list
 abbrev pub kind_name : (index : ℕ) → List ℕ

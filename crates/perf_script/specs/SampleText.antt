@@ -5,8 +5,8 @@ use Rattle.perf_history.specs.declared.changes.Change.{Change}
 use Rattle.perf_walk.specs.declared.calls.Call.{Call}
 use Rattle.perf_walk.specs.declared.sampling.Sample.{Sample}
 use Rattle.perf_words.specs.Bits.{has_bit}
-use Rattle.perf_script.specs.Columns.{address_column, period_column}
-use Rattle.perf_script.specs.Files.{place_column_if}
+use Rattle.perf_columns.specs.Columns.{address_column, period_column}
+use Rattle.perf_columns.specs.Files.{place_column_if}
 use Rattle.perf_script.specs.Chains.{call_lines}
 use Rattle.perf_script.specs.Heads.{head_columns, is_chained, text_if}
 use Rattle.perf_script.specs.Labels.{EventLabel}

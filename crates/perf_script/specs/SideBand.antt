@@ -21,7 +21,7 @@ use Rattle.perf_walk.specs.Changes.{or_empty}
 use Rattle.perf_words.specs.Bits.{has_bit}
 use Rattle.perf_script.specs.Heads.{is_chained, line_with}
 use Rattle.perf_script.specs.NamespaceText.{namespaces_text}
-use Rattle.perf_script.specs.RecordText as text
+use Rattle.perf_columns.specs.RecordText as text
 use Rattle.perf_script.specs.declared.fields.Fields.{Fields}
 use Rattle.perf_script.specs.declared.heads.Head.{Head}
 

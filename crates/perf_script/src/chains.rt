@@ -7,12 +7,12 @@ ghost use Rattle.perf_history.specs.Recorded.{IsHistory};
 ghost use Rattle.perf_history.specs.declared.changes.Change.{Change};
 ghost use Rattle.perf_history.specs.declared.changes.Mode.TheVariants as modes;
 ghost use Rattle.perf_script.specs.Chains as chains;
-ghost use Rattle.perf_script.specs.Columns.{address_column};
-ghost use Rattle.perf_script.specs.Files.{place_column};
+ghost use Rattle.perf_columns.specs.Columns.{address_column};
+ghost use Rattle.perf_columns.specs.Files.{place_column};
 
-use crate::cells::cells_of;
-use crate::columns::push_address;
-use crate::files::{push_place, shown_address};
+use perf_columns::cells::cells_of;
+use perf_columns::columns::push_address;
+use perf_columns::files::{push_place, shown_address};
 use perf_history::{History, Memory, Mode, Place};
 use perf_walk::Call;
 use std::alloc::AllocError;

@@ -5,10 +5,10 @@ ghost use Rattle.perf_history.specs.Recorded.{IsHistory};
 ghost use Rattle.perf_history.specs.declared.changes.Change.{Change};
 ghost use Rattle.perf_script.specs.Heads as heads;
 
-use crate::bits::has_bit;
-use crate::columns::{push_cpu, push_task, push_time};
 use crate::fields::Fields;
-use crate::threads::push_name_column;
+use perf_columns::bits::has_bit;
+use perf_columns::columns::{push_cpu, push_task, push_time};
+use perf_columns::threads::push_name_column;
 use perf_history::History;
 use std::alloc::AllocError;
 

@@ -3,7 +3,7 @@
 ghost use Rattle.std.specs.Prelude.{◌≡◌, ◌++◌, ◌≤◌, IfOk, OnOk, map, max, length, string_bytes};
 ghost use Rattle.perf_script.specs.Labels as labels;
 
-use crate::columns::push_right;
+use perf_columns::columns::push_right;
 use perf_file::{Event, Recording};
 use perf_walk::Filter;
 use std::alloc::{AllocError, Global};

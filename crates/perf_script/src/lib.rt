@@ -1,24 +1,18 @@
 //! The text of the samples and the other records of a recording, as `perf script` prints it.
 #![tactic(auto)]
 
-mod bits;
-mod cells;
 mod chains;
-mod columns;
 mod error;
 mod fields;
-mod files;
 mod heads;
 mod ids;
 mod labels;
 mod namespaces;
 mod readings;
-mod records;
 mod run;
 mod samples;
 mod script;
 mod side_band;
-mod threads;
 mod writing;
 
 pub use error::ScriptError;

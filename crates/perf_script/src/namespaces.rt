@@ -5,10 +5,10 @@ ghost use Rattle.perf_base.specs.Dynamic.{order_of};
 ghost use Rattle.perf_script.specs.FlatLines.{namespaces_in};
 ghost use Rattle.perf_script.specs.NamespaceText as spaces;
 
-use crate::columns::put_hex_number;
 use crate::readings::{bytes_after, first_number};
-use crate::records::put_pair;
 use perf_base::endian::Dynamic;
+use perf_columns::columns::put_hex_number;
+use perf_columns::records::put_pair;
 use perf_text::strip::Strip;
 use std::alloc::AllocError;
 

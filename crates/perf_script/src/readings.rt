@@ -14,9 +14,9 @@ ghost use Rattle.perf_script.specs.Blocks as blocks;
 ghost use Rattle.perf_script.specs.Counters as counters;
 ghost use Rattle.perf_script.specs.Moved as moves;
 
-use crate::bits::has_bit;
 use perf_base::Endian;
 use perf_base::endian::Dynamic;
+use perf_columns::bits::has_bit;
 use perf_flat::frame::FlatFrame;
 use perf_walk::bytes_at;
 use std::alloc::{AllocError, Global};

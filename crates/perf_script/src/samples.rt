@@ -3,18 +3,18 @@
 ghost use Rattle.std.specs.Prelude.{◌≡◌, ◌++◌, ◌<◌, OnOk, List, ℕ};
 ghost use Rattle.perf_history.specs.Recorded.{IsHistory};
 ghost use Rattle.perf_history.specs.declared.changes.Change.{Change};
-ghost use Rattle.perf_script.specs.Columns.{period_column};
+ghost use Rattle.perf_columns.specs.Columns.{period_column};
 ghost use Rattle.perf_script.specs.Headings.{heading_view};
 ghost use Rattle.perf_script.specs.Heads.{text_if};
 ghost use Rattle.perf_script.specs.SampleText as samples;
 ghost use Rattle.perf_script.specs.Seen.{shown_in};
 
-use crate::bits::has_bit;
 use crate::chains::push_calls;
-use crate::columns::{push_address, push_period};
 use crate::fields::Fields;
-use crate::files::push_place_column_if;
 use crate::heads::{Head, is_chained, push_head};
+use perf_columns::bits::has_bit;
+use perf_columns::columns::{push_address, push_period};
+use perf_columns::files::push_place_column_if;
 use perf_history::History;
 use perf_walk::{Call, Sample};
 use std::alloc::AllocError;

@@ -24,7 +24,6 @@ ghost use Rattle.perf_script.specs.ScriptText as script;
 ghost use Rattle.perf_script.specs.Seen.{shown_in};
 ghost use Rattle.perf_script.specs.UnderWay.{AreChosen, AreEvents, IsUnderWay, IsBegun, HasParts, Pushes, shown_by};
 
-use crate::bits::has_bit;
 use crate::fields::Style;
 use crate::ids::Ids;
 use crate::labels::{Label, labels_of};
@@ -32,6 +31,7 @@ use crate::readings::{Counters, Reading, push_readings};
 use crate::samples::{Heading, Sampled, push_sample};
 use crate::side_band::push_side;
 use perf_base::endian::Dynamic;
+use perf_columns::bits::has_bit;
 use perf_file::{Entry, Recording};
 use perf_flat::frame::FlatFrame;
 use perf_history::History;

@@ -9,21 +9,21 @@ ghost use Rattle.perf_words.specs.Bits.{has_bit};
 ghost use Rattle.perf_script.specs.FlatLines as lines;
 ghost use Rattle.perf_script.specs.Heads.{line_with};
 ghost use Rattle.perf_script.specs.NamespaceText.{namespaces_text};
-ghost use Rattle.perf_script.specs.RecordText as records;
+ghost use Rattle.perf_columns.specs.RecordText as records;
 
-use crate::bits::has_bit;
 use crate::fields::Fields;
 use crate::heads::{Head, is_chained, push_head};
 use crate::namespaces::push_namespaces;
-use crate::records::{
-    push_bpf, push_build_id, push_cgroup, push_comm, push_inode, push_ksymbol, push_lost,
-    push_path, push_range, push_rights, push_switch, push_switch_wide, push_task,
-};
 use perf_base::endian::Dynamic;
 use perf_base::sys::{
     PERF_RECORD_BPF_EVENT, PERF_RECORD_CGROUP, PERF_RECORD_COMM, PERF_RECORD_EXIT,
     PERF_RECORD_FORK, PERF_RECORD_KSYMBOL, PERF_RECORD_LOST, PERF_RECORD_MMAP, PERF_RECORD_MMAP2,
     PERF_RECORD_NAMESPACES, PERF_RECORD_SWITCH, PERF_RECORD_SWITCH_CPU_WIDE,
+};
+use perf_columns::bits::has_bit;
+use perf_columns::records::{
+    push_bpf, push_build_id, push_cgroup, push_comm, push_inode, push_ksymbol, push_lost,
+    push_path, push_range, push_rights, push_switch, push_switch_wide, push_task,
 };
 use perf_flat::frame::FlatFrame;
 use perf_history::History;

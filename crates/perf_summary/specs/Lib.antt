@@ -1,6 +1,3 @@
-pub mod Contents
-pub mod Counts
-pub mod Steps
 pub mod TypeNames
 pub mod Words
 pub mod Datas

@@ -13,12 +13,12 @@ ghost use Rattle.perf_summary.specs.OwnData as own;
 ghost use Rattle.perf_summary.specs.SummaryJson as jsons;
 ghost use Rattle.perf_summary.specs.SummaryText.{is_any_refused, is_machine_refused};
 
-use crate::counting::counts_of;
-use crate::counts::{Counts, EventCount};
 use crate::text::count_at;
 use crate::threads::thread_values;
 use crate::type_names::type_name;
 use perf_file::{BadFeature, CommandLine, EscapedBytes, Event, Recording};
+use perf_tally::counting::counts_of;
+use perf_tally::counts::{Counts, EventCount};
 use perf_threads::{Thread, ThreadId};
 use serde_json::{Value, json};
 use std::alloc::{AllocError, Global};

@@ -1,9 +1,6 @@
-//! What a file of `perf record` contains, in counts, and the engine of the command that writes them.
+//! The summary of a file of `perf record`, and the engine of the command that writes it.
 #![tactic(auto)]
 
-mod contents;
-pub mod counting;
-pub mod counts;
 mod json;
 pub mod run;
 mod text;

@@ -4,7 +4,7 @@ use Rattle.perf_base.specs.Dynamic.{order_of}
 use Rattle.perf_base.specs.Order.{Order}
 use Rattle.perf_script.specs.FlatLines.{namespaces_in}
 use Rattle.perf_script.specs.NamespaceText.{gap_before, namespace_text, namespaces_from}
-use Rattle.perf_script.proofs.Appended.{three}
+use Rattle.perf_columns.proofs.Appended.{three}
 use Rattle.perf_script.proofs.NamespaceLists.{fewer, first_text}
 use Rattle.perf_script.proofs.namespaces.push_list.Goals as goal
 

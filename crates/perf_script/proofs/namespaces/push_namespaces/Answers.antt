@@ -4,7 +4,7 @@ use Rattle.perf_base.specs.Dynamic.{order_of}
 use Rattle.perf_base.specs.Order.{Order}
 use Rattle.perf_script.specs.FlatLines.{namespaces_in}
 use Rattle.perf_script.specs.NamespaceText.{list_end, namespaces_from, task_text}
-use Rattle.perf_script.proofs.Appended.{appended, three}
+use Rattle.perf_columns.proofs.Appended.{appended, three}
 use Rattle.perf_script.proofs.NamespaceLists.{namespaces_count}
 use Rattle.perf_script.proofs.namespaces.push_namespaces.Goals as goal
 

@@ -1,7 +1,7 @@
 use Rattle.std.proofs.Common.{ℕ, ◌++◌, codes, decimal, ◌∙◌, ap}
 use Rattle.perf_script.specs.NamespaceText.{task_text}
-use Rattle.perf_script.specs.RecordText.{pair}
-use Rattle.perf_script.proofs.Appended.{appended}
+use Rattle.perf_columns.specs.RecordText.{pair}
+use Rattle.perf_columns.proofs.Appended.{appended}
 use Rattle.perf_script.proofs.namespaces.push_task.Goals as goal
 
 pub returns : goal.returns

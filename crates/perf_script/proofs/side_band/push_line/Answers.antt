@@ -3,7 +3,7 @@ use Rattle.std.proofs.lemmas.Result.{on_ok_weaker}
 use Rattle.perf_base.specs.Dynamic.{order_of}
 use Rattle.perf_script.specs.FlatLines.{record_in}
 use Rattle.perf_script.specs.Heads.{head_columns}
-use Rattle.perf_script.proofs.Appended.{three}
+use Rattle.perf_columns.proofs.Appended.{three}
 use Rattle.perf_script.proofs.side_band.push_line.Goals as goal
 
 pub returns : goal.returns

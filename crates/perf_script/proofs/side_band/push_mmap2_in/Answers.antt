@@ -1,8 +1,8 @@
 use Rattle.std.proofs.Common.{◌++◌, codes}
 use Rattle.std.proofs.lemmas.Result.{on_ok_weaker}
 use Rattle.perf_script.specs.FlatLines.{identity_by, range_by, rights_by, string_at}
-use Rattle.perf_script.specs.RecordText.{use_text}
-use Rattle.perf_script.proofs.Appended.{three}
+use Rattle.perf_columns.specs.RecordText.{use_text}
+use Rattle.perf_columns.proofs.Appended.{three}
 use Rattle.perf_script.proofs.side_band.push_mmap2_in.Goals as goal
 
 pub returns : goal.returns

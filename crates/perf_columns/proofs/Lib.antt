@@ -1,0 +1,2 @@
+pub mod Appended
+mod Digits

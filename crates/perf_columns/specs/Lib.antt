@@ -1,0 +1,4 @@
+pub mod Columns
+pub mod Threads
+pub mod Files
+pub mod RecordText
