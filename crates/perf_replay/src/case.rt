@@ -6,10 +6,10 @@ use anyhow::{Context, Result, bail};
 use perf_event_data::endian::Dynamic;
 use perf_event_data::sys::perf_event_attr;
 use perf_test_helpers::everywhere::add_other;
-use perf_test_helpers::reasons::reasons;
-use perf_test_helpers::runs::{runs_everywhere, text_of_records};
 use perf_test_helpers::sample_bytes::{Part, frames, put_parts};
 use perf_test_lines::Perfrec;
+use perf_test_runs::{runs_everywhere, text_of_records};
+use perf_test_texts::reasons::reasons;
 use std::alloc::{AllocError, Global};
 
 /// What the lines of a case have set so far.

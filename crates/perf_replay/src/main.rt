@@ -14,12 +14,12 @@
 //!   after `little` in little endian again.
 //! - `run LIMIT ..` reads the records of a stream, each time at most that many, and
 //!   `after LIMIT ..` those after the attribute at the start of the bytes. Each frame is its line
-//!   of `perfrec`, and after that what it leaves out ([`perf_test_helpers::texts`]).
+//!   of `perfrec`, and after that what it leaves out ([`perf_test_helpers::lines`]).
 //! - `shown` is the `{:?}` of the records of a slice: bytes that are its own are `Borrowed`.
 //! - `sample LEFT` reads a sample, alone and as a frame, after which that many bytes are left, in
 //!   little and in big endian.
 //! - `perfrec WORD ..` is what that program writes, its lines one after another, and its status.
-//! - `refused CALL ..` is why these calls refuse the first frame ([`perf_test_helpers::reasons`]).
+//! - `refused CALL ..` is why these calls refuse the first frame ([`perf_test_texts::reasons`]).
 //! - `= ANSWER` is the result. What is set stays, so that several results may follow one input.
 //! - `> LINE` or `~ LINE` is a line of a longer result, of which `=` has the rest, such as the
 //!   status of `perfrec`. `make.py` writes the cases that have such lines, and its README explains

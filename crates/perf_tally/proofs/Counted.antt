@@ -3,12 +3,12 @@ use Rattle.std.proofs.Common.{◌≡◌, ◌<◌, ◌^◌, List, [], ◌∷◌, 
 use Rattle.std.proofs.lemmas.List.{map-append, length-map}
 use Rattle.perf_sections.specs.Opened.{File}
 use Rattle.perf_file.specs.Pieces.{Piece, pieces_of}
-use Rattle.perf_data_text.proofs.InTurn.{pieces_below}
 use Rattle.perf_tally.specs.Contents.{contents_of, all_contents}
 use Rattle.perf_tally.specs.Counts.{AreCounts}
 use Rattle.perf_tally.specs.Steps.{IsNew, AddsFrame}
 use Rattle.perf_tally.specs.declared.contents.Contents.{Contents}
 use Rattle.perf_tally.specs.declared.counts.Counts.{Counts}
+use Rattle.perf_tally.proofs.Few.{pieces_below}
 use Rattle.perf_tally.proofs.Tallies.{IsTallied, tallied_none, tallied_more, tallied_all}
 
 -- some frames are counted, and these are left of all

@@ -1,3 +1,4 @@
 pub mod Counted
+mod Few
 pub mod Records
 pub mod Tallies

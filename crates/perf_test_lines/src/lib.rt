@@ -5,7 +5,7 @@ use perf_event_data::Record;
 use perf_event_data::parse::ParseResult;
 use perf_event_data::sys::perf_event_header;
 use perf_run::line_of;
-use perf_test_helpers::texts::WriteLine;
+use perf_test_helpers::lines::WriteLine;
 use std::alloc::AllocError;
 
 /// Writes the lines of `perfrec`.

@@ -7,10 +7,10 @@ use perf_event_data::parse::{ErrorKind, ParseConfig, ParseResult};
 use perf_event_data::sys::perf_event_attr;
 use perf_event_data::{BadFrame, Frame, Partial, frames};
 use perf_test_helpers::everywhere::OTHERS;
-use perf_test_helpers::reasons::Nothing;
-use perf_test_helpers::runs::differences;
 use perf_test_helpers::sample_bytes::{Part, put_parts};
 use perf_test_lines::Perfrec;
+use perf_test_runs::differences;
+use perf_test_texts::reasons::Nothing;
 use std::alloc::{AllocError, Global};
 use std::process::Abort;
 

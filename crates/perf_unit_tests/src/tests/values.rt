@@ -5,9 +5,9 @@ use perf_event_data::sys::{
     PERF_RECORD_EXIT, PERF_RECORD_FORK, PERF_RECORD_LOST, PERF_RECORD_LOST_SAMPLES,
 };
 use perf_event_data::{Lost, LostSamples, Record, Sample, SampleFields};
-use perf_test_helpers::runs::write_debug_record;
-use perf_test_helpers::texts::write_last_record;
 use perf_test_lines::Perfrec;
+use perf_test_runs::write_debug_record;
+use perf_test_texts::texts::write_last_record;
 use std::alloc::{AllocError, Global};
 
 fn text_of_records(alloc: Global) -> Result<String, AllocError> {

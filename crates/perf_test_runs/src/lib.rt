@@ -1,10 +1,9 @@
-//! Runs over streams as text.
+//! Runs over streams as text, for the tests of several crates: by every buffer, and by each call that reads more than one
+//! frame.
+#![tactic(auto)]
 
 ghost use Rattle.std.specs.Prelude.{⊤};
 
-use crate::everywhere::{Buffer, OTHERS, Question, add_other, add_over, parser_of};
-use crate::over_buffer;
-use crate::texts::{WriteLine, write_error, write_frame, write_last_frame};
 use perf_event_data::endian::{Endian, Little, Native};
 use perf_event_data::parse::{
     ErrorKind, Parse, ParseBuf, ParseConfig, ParseError, ParseResult, Parser,
@@ -14,6 +13,9 @@ use perf_event_data::{
     BadFrame, Frame as WholeFrame, FrameHandler, FrameRun, PieceBuf, Record, Run, RunEnd,
     each_frame, frames, read_records,
 };
+use perf_test_helpers::everywhere::{Buffer, OTHERS, Question, add_other, add_over, parser_of};
+use perf_test_helpers::lines::{WriteLine, write_error, write_frame, write_last_frame};
+use perf_test_helpers::over_buffer;
 use std::alloc::{AllocError, Global};
 use std::io::BufReader;
 

@@ -2,7 +2,6 @@
 
 ghost use Rattle.std.specs.Prelude.{⊤};
 
-use crate::everywhere::{add_other, parser_of};
 use perf_event_data::endian::{Endian, Little};
 use perf_event_data::parse::{ParseConfig, ParseResult, Parser};
 use perf_event_data::sys::perf_event_attr;
@@ -10,6 +9,7 @@ use perf_event_data::{
     BadFrame, Frame, FrameHandler, Partial, PartialVisitor, RecordMetadata, Run, Sample,
     SampleFields, each_frame, frames, read_records,
 };
+use perf_test_helpers::everywhere::{add_other, parser_of};
 use std::alloc::{AllocError, Global};
 
 /// Handles no type of record.
