@@ -24,6 +24,7 @@ RETURNS = {
     "perf_flat": "a frame as one struct, no memory",
     "perf_sections": "the sections of a perf.data file",
     "perf_file": "the frames of a perf.data file",
+    "perf_outlines": "the same without memory",
     "perf_history": "names of threads, and what is mapped",
     "perf_walk": "frames in turn, what is known then",
     "perf_threads": "what each thread did",

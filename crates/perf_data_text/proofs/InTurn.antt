@@ -1,15 +1,14 @@
 -- Lines of frames one after another.
-use Rattle.std.proofs.Common.{◌≡◌, ℕ, zero, suc, ◌+◌, ◌≤◌, ◌<◌, Bool, List, [], ◌∷◌, ◌++◌, ◌||◌, true, false, Option, Some, None, nat_lt, inl, inr, take, get_or, length, ◌^◌, refl, sym, ap, ◌∙◌, add-zero, zero-add, append-nil, append_assoc, length-append, arith}
+use Rattle.std.proofs.Common.{◌≡◌, ℕ, zero, ◌+◌, ◌≤◌, ◌<◌, Bool, List, [], ◌∷◌, ◌++◌, ◌||◌, true, false, Option, Some, None, take, get_or, length, ◌^◌, refl, sym, ap, ◌∙◌, add-zero, zero-add, append-nil, append_assoc, length-append, arith}
 use Rattle.std.specs.Prelude.{is_err}
 use Rattle.std.specs.List.{cons_option}
 use Rattle.std.proofs.lemmas.List.{take_more}
 use Rattle.std.proofs.lemmas.List.Elements.{filter_map-append}
 use Rattle.std.proofs.lemmas.List.Folds.{list_any-append}
-use Rattle.std.proofs.lemmas.Bool.{lt-ltb, le-ltb, cases_lt}
-use Rattle.perf_base.specs.Dynamic.{order_of}
 use Rattle.perf_sections.specs.Opened.{File}
-use Rattle.perf_file.specs.Pieces.{Piece, pieces_of, first_pieces, after_piece, piece_at}
+use Rattle.perf_file.specs.Pieces.{Piece, pieces_of, piece_at}
 use Rattle.perf_file.specs.declared.entries.Entry.{Entry}
+use Rattle.perf_file.proofs.Few.{pieces_below}
 use Rattle.perf_data_text.specs.DumpText.{piece_line, piece_lines, pieces_at, any_refused, words_of_piece, IsTextOfPieces}
 
 pub lines_append : (f : File) (first : ℕ) (xs ys : List Piece) → piece_lines f first (xs ++ ys) ≡ piece_lines f first xs ++ piece_lines f (first + length xs) ys
@@ -49,21 +48,6 @@ made_more f done p count next refused after text grown made counted so more = re
       ∙ ap (λ n. piece_lines f n (p ∷ [])) (sym (zero-add (length done))))
       ∙ sym (lines_append f 0 done (p ∷ []));
 }
-
--- ---- how many there are
-
-few_pieces : (f : File) (n : ℕ) (bytes : List ℕ) → length (first_pieces f n bytes) ≤ n
-few_pieces f zero bytes = omega arith
-few_pieces f (suc n) bytes = elim (cases_lt (length bytes) 8) [
-  | inl lt ↦ let a : nat_lt (length bytes) 8 ≡ true = lt-ltb (length bytes) 8 lt in rw a (omega arith)
-  | inr fits ↦
-      let a : nat_lt (length bytes) 8 ≡ false = le-ltb (length bytes) 8 fits in
-      rw a (omega (arith, few_pieces f n (after_piece (order_of f.order) bytes)))
-]
-
--- no more than bytes
-pub pieces_below : (f : File) → length (pieces_of f) ≤ length f.frames
-pieces_below f = few_pieces f (length f.frames) f.frames
 
 -- ---- the loops
 

@@ -13,7 +13,7 @@ use Rattle.perf_sections.specs.IdSections.{id_sections_in, sections_of, checked_
 use Rattle.perf_sections.specs.IdTables.{id_table, event_of, checked_table}
 use Rattle.perf_sections.specs.Opened.{File, FileEvent, opened_file, event_in, file_with, table_of}
 use Rattle.perf_sections.specs.Opens.{◌>>=◌}
-use Rattle.perf_file.specs.Outlines.{id_count, counted_ids, apart_parts, table_in, words_in}
+use Rattle.perf_outlines.specs.Outlines.{id_count, counted_ids, apart_parts, table_in, words_in}
 use Rattle.perf_file.specs.Pipes.{pipe_with, all_frames, opened_pipe}
 use Rattle.perf_sections.specs.Sections.{ShareNothing, IsInside}
 use Rattle.perf_sections.specs.declared.error.OpenError.{OpenError}
@@ -21,10 +21,10 @@ use Rattle.perf_sections.specs.declared.head.Head.{Head}
 use Rattle.perf_sections.specs.declared.id_place.IdPlace.{IdPlace}
 use Rattle.perf_sections.specs.declared.ids.IdOfEvent.{IdOfEvent}
 use Rattle.perf_sections.specs.declared.section.Section.{Section}
-use Rattle.perf_file.specs.declared.summary.Outline.{Outline}
-use Rattle.perf_file.proofs.InMemory.{HasEvents, again}
-use Rattle.perf_file.proofs.PipeInMemory.{HasNoteEvents}
-use Rattle.perf_file.proofs.Sizes.{ids_fit}
+use Rattle.perf_outlines.specs.declared.summary.Outline.{Outline}
+use Rattle.perf_outlines.proofs.InMemory.{HasEvents, again}
+use Rattle.perf_outlines.proofs.PipeInMemory.{HasNoteEvents}
+use Rattle.perf_outlines.proofs.Sizes.{ids_fit}
 use Rattle.perf_event_c.specs.FileEvents.{flat_event, flat_events, note_events, place_by, first_place, all_at, checked_places, stated, event_numbers, AreRead, ReadsFile}
 use Rattle.perf_event_c.specs.declared.file_events.FlatEvent.{FlatEvent}
 

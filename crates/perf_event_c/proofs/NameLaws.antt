@@ -17,7 +17,7 @@ use Rattle.perf_sections.specs.Numbers.{number}
 use Rattle.perf_file.specs.Pipes.{FrameNote, pipe_order, all_frames, is_of, is_note, newer, has_name, new_name, named_by, named_event, last_name, noted_feature, noted_name}
 use Rattle.perf_sections.specs.declared.ids.IdOfEvent.{IdOfEvent}
 use Rattle.perf_file.proofs.NewNames.{same_names, gets_name, keeps_name, other_event}
-use Rattle.perf_file.proofs.NotePlacing.{noted_alike}
+use Rattle.perf_outlines.proofs.NotePlacing.{noted_alike}
 use Rattle.perf_sections.specs.Features.{part_in, or_nothing, descriptions_of, file_descriptions}
 use Rattle.perf_sections.specs.Heads.{head_in, checked_features, checked_parts}
 use Rattle.perf_sections.specs.Names.{Name, described, described_or, name_by_numbers, first_of, key_of, name_of, name_with}

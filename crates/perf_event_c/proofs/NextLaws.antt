@@ -15,18 +15,18 @@ use Rattle.perf_sections.specs.Heads.{head_in, checked_features, checked_parts}
 use Rattle.perf_sections.specs.IdPlaces as places
 use Rattle.perf_sections.specs.Opened.{File, FileEvent, opened_file, checked_head, events_in, checked_events, file_with, attributes_of}
 use Rattle.perf_sections.specs.Opens.{◌>>=◌}
-use Rattle.perf_file.specs.Outlines.{outline, outline_with, checked_attributes, counted_ids}
+use Rattle.perf_outlines.specs.Outlines.{outline, outline_with, checked_attributes, counted_ids}
 use Rattle.perf_file.specs.Owners as owners
 use Rattle.perf_file.specs.Pieces.{place_in, after_piece}
-use Rattle.perf_file.specs.PipeOutlines.{pipe_outline, pipe_head, form_outline}
+use Rattle.perf_outlines.specs.PipeOutlines.{pipe_outline, pipe_head, form_outline}
 use Rattle.perf_file.specs.Pipes.{pipe_order, opened_pipe}
 use Rattle.perf_sections.specs.Sections.{is_inside}
 use Rattle.perf_sections.specs.declared.error.OpenError.{OpenError}
 use Rattle.perf_sections.specs.declared.head.Head.{Head}
 use Rattle.perf_file.specs.declared.owning.Owner.{Owner}
 use Rattle.perf_file.specs.declared.owning.Owner.TheVariants as owner
-use Rattle.perf_file.specs.declared.summary.Outline.{Outline}
-use Rattle.perf_file.proofs.PipeInMemory.{pipe_long, outline_head, pipe_is, form_some, form_none}
+use Rattle.perf_outlines.specs.declared.summary.Outline.{Outline}
+use Rattle.perf_outlines.proofs.PipeInMemory.{pipe_long, outline_head, pipe_is, form_some, form_none}
 use Rattle.perf_flat.specs.FlatConfigs.{flat_config_of, is_valid, order_code, order_by}
 use Rattle.perf_flat.specs.declared.config.FlatConfig.{FlatConfig}
 use Rattle.perf_records.specs.Sights.{Sight, sight_in}

@@ -12,7 +12,7 @@ use Rattle.perf_file.specs.Finders.{IsTableOf}
 use Rattle.perf_sections.specs.IdPlaces.{id_place, is_same_place}
 use Rattle.perf_sections.specs.Opened.{File, FileEvent, table_of}
 use Rattle.perf_sections.specs.Opens.{◌>>=◌}
-use Rattle.perf_file.specs.PipeOutlines.{from_notes}
+use Rattle.perf_outlines.specs.PipeOutlines.{from_notes}
 use Rattle.perf_file.specs.Pipes.{FrameNote, noted_attribute}
 use Rattle.perf_sections.specs.declared.error.OpenError.{OpenError}
 use Rattle.perf_sections.specs.declared.error.OpenError.TheVariants as errors
@@ -20,7 +20,7 @@ use Rattle.perf_sections.specs.declared.head.Head.{Head}
 use Rattle.perf_sections.specs.declared.id_place.IdPlace.{IdPlace}
 use Rattle.perf_sections.specs.declared.ids.IdOfEvent.{IdOfEvent}
 use Rattle.perf_sections.specs.declared.section.Section.{Section}
-use Rattle.perf_file.specs.declared.summary.Outline.{Outline}
+use Rattle.perf_outlines.specs.declared.summary.Outline.{Outline}
 use Rattle.perf_flat.specs.FlatConfigs.{flat_config_of, is_valid}
 use Rattle.perf_flat.specs.declared.config.FlatConfig.{FlatConfig}
 use Rattle.perf_event_c.specs.CallerConfigs.{configuration_by}

@@ -1,6 +1,6 @@
 -- Where a feature of a file is.
 use Rattle.std.specs.Prelude.{◌≡◌, ℕ, List, Option, Some, None, Result, Ok, Err}
-use Rattle.perf_file.specs.NotePlaces.{bytes_of}
+use Rattle.perf_outlines.specs.NotePlaces.{bytes_of}
 use Rattle.perf_sections.specs.Sections.{IsInside}
 use Rattle.perf_file.specs.declared.feature.BadFeature.{BadFeature}
 use Rattle.perf_sections.specs.declared.section.Section.{Section}

@@ -6,7 +6,7 @@ use Rattle.perf_sections.specs.declared.error.OpenError.{OpenError}
 use Rattle.perf_sections.specs.declared.error.OpenError.TheVariants as errors
 use Rattle.perf_sections.specs.declared.error.Part.{Part}
 use Rattle.perf_sections.specs.declared.error.Part.TheVariants as parts
-use Rattle.perf_file.specs.declared.summary.Outline.{Outline}
+use Rattle.perf_outlines.specs.declared.summary.Outline.{Outline}
 use Rattle.perf_flat.specs.FlatConfigs.{order_code}
 use Rattle.perf_event_c.specs.declared.file.FlatFile.{FlatFile}
 

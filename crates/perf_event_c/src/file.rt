@@ -2,15 +2,15 @@
 
 ghost use Rattle.std.specs.Prelude.{◌≡◌, ◌≢◌, Err};
 ghost use Rattle.perf_file.specs.Forms.{opened};
-ghost use Rattle.perf_file.specs.PipeOutlines.{form_outline};
+ghost use Rattle.perf_outlines.specs.PipeOutlines.{form_outline};
 ghost use Rattle.perf_sections.specs.declared.error.OpenError.{OpenError};
 ghost use Rattle.perf_event_c.specs.Files as files;
 
 use perf_base::ErrorKind;
-use perf_file::pipe_outline::outline_of_form;
-use perf_file::summary::Outline;
 use perf_file::{OpenError, Part};
 use perf_flat::config::order_code;
+use perf_outlines::pipe_outline::outline_of_form;
+use perf_outlines::summary::Outline;
 use perf_sections::section::Section;
 use std::alloc::Global;
 

@@ -3,7 +3,7 @@
 ghost use Rattle.perf_file.specs.Forms.{feature_of};
 ghost use Rattle.perf_event_c.specs.FileFeatures as features;
 
-use perf_file::feature_places::feature_section;
+use perf_outlines::feature_places::feature_section;
 use perf_sections::section::Section;
 
 /// In place of the number of a refusal: the file does not have the feature.

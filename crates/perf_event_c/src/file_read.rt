@@ -3,8 +3,8 @@
 ghost use Rattle.std.specs.Prelude.{◌≡◌, Ok, Some, None, MatchOption, min, drop, length};
 ghost use Rattle.perf_file.specs.Forms.{opened};
 ghost use Rattle.perf_sections.specs.Opened.{File};
-ghost use Rattle.perf_file.specs.PipeOutlines.{form_outline};
-ghost use Rattle.perf_file.specs.declared.summary.Outline.{Outline};
+ghost use Rattle.perf_outlines.specs.PipeOutlines.{form_outline};
+ghost use Rattle.perf_outlines.specs.declared.summary.Outline.{Outline};
 ghost use Rattle.perf_event_c.specs.EntryReads as reads;
 ghost use Rattle.perf_event_c.specs.Files.{flat_file};
 

@@ -4,13 +4,9 @@ pub mod Pieces
 pub mod Payloads
 pub mod Entries
 pub mod DecidingIds
-pub mod Filled
-pub mod Outlines
 pub mod Finders
 pub mod FeatureTable
 pub mod Pipes
-pub mod PipeOutlines
-pub mod NotePlaces
 pub mod NoteViews
 pub mod Forms
 pub mod FeatureTexts

@@ -60,12 +60,8 @@ fn checked_section(bytes: &[u8], section: Section) -> Result<Option<Section>, Ba
     }
 }
 
-// Where a feature is, if the file has it.
-pub(crate) fn section_of(
-    bytes: &[u8],
-    head: Head,
-    feature: u8,
-) -> Result<Option<Section>, BadFeature>
+/// Where a feature is, or `None` if the file does not have it. Refused if it ends beyond the file.
+pub fn section_of(bytes: &[u8], head: Head, feature: u8) -> Result<Option<Section>, BadFeature>
     requires good { IsGoodHead bytes.now head }
     requires whole { 104 ≤ length bytes.now }
     ensures value { result ≡ table.section_of bytes.now head feature }

@@ -86,8 +86,8 @@ fn is_note(note: &Note<'_>) -> bool
     )
 }
 
-// Whether it has frames that are compressed.
-pub(crate) fn is_compressed(note: &Note<'_>) -> bool
+/// Whether it has frames that are compressed.
+pub fn is_compressed(note: &Note<'_>) -> bool
     ensures { result ≡ pipes.is_compressed (views.note_of note.now) }
 {
     note.header.type_ == 81 || note.header.type_ == 83
@@ -138,8 +138,8 @@ pub fn notes_of_type<'p>(
     Ok(found)
 }
 
-// Whether a note is the feature with a number.
-pub(crate) fn has_number(order: Dynamic, note: &Note<'_>, feature: u64) -> bool
+/// Whether a note is the feature with a number.
+pub fn has_number(order: Dynamic, note: &Note<'_>, feature: u64) -> bool
     ensures value { result ≡ pipes.has_number (order_of order) feature (views.note_of note.now) }
     ensures long { OnTrue result (8 ≤ length note.now.body.now) }
 {

@@ -183,8 +183,8 @@ fn noted_descriptions<'p>(order: Dynamic, notes: &[Note<'p>]) -> &'p [u8]
     }
 }
 
-// The new name that a note has, of at least one byte.
-pub(crate) fn name_in<'p>(order: Dynamic, note: &Note<'p>) -> Option<&'p [u8]>
+/// The new name that a note has, of at least one byte.
+pub fn name_in<'p>(order: Dynamic, note: &Note<'p>) -> Option<&'p [u8]>
     ensures value { MatchOption result
         (pipes.has_name (order_of order) (views.note_of note.now) ≡ false)
         (λ name. (pipes.has_name (order_of order) (views.note_of note.now) ≡ true)

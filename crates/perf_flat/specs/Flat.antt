@@ -136,6 +136,10 @@ empty_frame h refusal reason = record {
   spans = filled_spans [];
 }
 
+-- a place for frames to be read into: all is 0
+abbrev pub blank_frame : FlatFrame
+blank_frame = empty_frame (record { type_ = 0; misc = 0; size = 0 }) 0 0
+
 -- the flat frame of a header without a record, and why there is none
 abbrev pub refused_frame : perf_event_header → Refusal → FlatFrame
 refused_frame h told =

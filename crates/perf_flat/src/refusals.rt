@@ -68,6 +68,18 @@ pub(crate) fn empty_frame(header: perf_event_header, refusal: u16, reason: u16) 
     }
 }
 
+/// A place for frames to be read into, in which all numbers are 0.
+pub fn blank_frame() -> FlatFrame
+    ensures { result ≡ flat.blank_frame }
+{
+    let header = perf_event_header {
+        type_: 0,
+        misc: 0,
+        size: 0,
+    };
+    empty_frame(header, 0, 0)
+}
+
 // Writes the flat frame of a header without a record.
 #[inline(never)]
 pub(crate) fn refuse_frame(header: perf_event_header, refusal: Refusal, frame: &mut FlatFrame)

@@ -11,7 +11,7 @@ use perf_base::ErrorKind;
 use perf_base::sys::perf_event_header;
 use perf_text::strip::Strip;
 
-/// Writes the numbers of a header before the text, each with a space after it.
+/// Writes the numbers of a header before the text, each with a space before it.
 #[inline]
 pub fn put_header(strip: &mut Strip, header: &perf_event_header)
     requires { 63 ≤ room_of strip.old }

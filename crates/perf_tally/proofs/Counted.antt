@@ -8,7 +8,7 @@ use Rattle.perf_tally.specs.Counts.{AreCounts}
 use Rattle.perf_tally.specs.Steps.{IsNew, AddsFrame}
 use Rattle.perf_tally.specs.declared.contents.Contents.{Contents}
 use Rattle.perf_tally.specs.declared.counts.Counts.{Counts}
-use Rattle.perf_tally.proofs.Few.{pieces_below}
+use Rattle.perf_file.proofs.Few.{pieces_below}
 use Rattle.perf_tally.proofs.Tallies.{IsTallied, tallied_none, tallied_more, tallied_all}
 
 -- some frames are counted, and these are left of all

@@ -1,4 +1,3 @@
 pub mod Counted
-mod Few
 pub mod Records
 pub mod Tallies

@@ -22,7 +22,7 @@ use perf_base::sys::perf_event_header;
 use perf_file::entries::time_in;
 use perf_file::listing::header_of;
 use perf_file::{Event, FileFrame, Owner, Recording};
-use perf_flat::frame::{FlatFrame, NUMBERS, SPANS, Span};
+use perf_flat::frame::{FlatFrame, NUMBERS};
 use perf_flat::read::read_body;
 use perf_records::frame::Frame;
 use perf_records::frame_end::frame_end;
@@ -61,28 +61,6 @@ impl Numbers {
         period: None,
         lost: 0,
     };
-}
-
-/// A place for frames to be read into.
-pub fn empty_place() -> FlatFrame {
-    FlatFrame {
-        type_: 0,
-        misc: 0,
-        size: 0,
-        read: 0,
-        refusal: 0,
-        reason: 0,
-        present: 0,
-        pid: 0,
-        tid: 0,
-        time: 0,
-        id: 0,
-        stream_id: 0,
-        cpu: 0,
-        read_format: 0,
-        numbers: [0; NUMBERS],
-        spans: [Span { at: 0, len: 0 }; SPANS],
-    }
 }
 
 /// What a frame of a file adds to the counts. It is read into `place`, whatever was there.

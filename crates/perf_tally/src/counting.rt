@@ -5,9 +5,10 @@ ghost use Rattle.perf_file.specs.Views.{view};
 ghost use Rattle.perf_tally.specs.Contents.{all_contents};
 ghost use Rattle.perf_tally.specs.Counts.{AreCounts};
 
-use crate::contents::{contents_of, empty_place};
+use crate::contents::contents_of;
 use crate::counts::Counts;
 use perf_file::Recording;
+use perf_flat::refusals::blank_frame;
 use std::alloc::{AllocError, Global};
 
 /// The counts of all frames of a file. Memory is needed for those of its events alone.
@@ -15,7 +16,7 @@ pub fn counts_of(alloc: Global, recording: &Recording<'_>) -> Result<Counts, All
     ensures { IfOk result (AreCounts (length (view recording.now).events) (all_contents (view recording.now))) }
 {
     let mut counts = Counts::new(alloc, recording.events().len())?;
-    let mut place = empty_place();
+    let mut place = blank_frame();
     for found in recording.frames() {
         let contents = contents_of(alloc, recording, &found, &mut place);
         counts.add(&contents);

@@ -12,8 +12,9 @@ use crate::parts::first_frame;
 use crate::sampling::Sample;
 use perf_file::listing::left_at;
 use perf_file::{Entry, Owner, Recording};
-use perf_flat::frame::{FlatFrame, NUMBERS, SPANS, Span};
+use perf_flat::frame::FlatFrame;
 use perf_flat::read::read_into;
+use perf_flat::refusals::blank_frame;
 use perf_history::{Change, History, Mode, Name, Place};
 use std::alloc::{AllocError, Global};
 
@@ -35,28 +36,6 @@ pub struct Found<'p> {
     pub bytes: &'p [u8],
     /// The number of its event, in the order of the file.
     pub event: usize,
-}
-
-// A frame before any was read.
-fn no_frame() -> FlatFrame {
-    FlatFrame {
-        type_: 0,
-        misc: 0,
-        size: 0,
-        read: 0,
-        refusal: 0,
-        reason: 0,
-        present: 0,
-        pid: 0,
-        tid: 0,
-        time: 0,
-        id: 0,
-        stream_id: 0,
-        cpu: 0,
-        read_format: 0,
-        numbers: [0; NUMBERS],
-        spans: [Span { at: 0, len: 0 }; SPANS],
-    }
 }
 
 // The number of an owner's event.
@@ -104,7 +83,7 @@ impl<'a, 'p> Walk<'a, 'p> {
         Walk {
             recording,
             history: History::new(alloc),
-            frame: no_frame(),
+            frame: blank_frame(),
         }
     }
 

@@ -1,5 +1,5 @@
 use Rattle.std.proofs.Common.{sym}
-use Rattle.perf_file.proofs.PipeInMemory.{form_refused}
+use Rattle.perf_outlines.proofs.PipeInMemory.{form_refused}
 use Rattle.perf_event_c.proofs.file.ped_file_open.Goals as goal
 
 pub returns-in-Err-clause-refused : goal.returns-in-Err-clause-refused

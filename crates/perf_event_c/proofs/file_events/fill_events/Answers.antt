@@ -6,7 +6,7 @@ use Rattle.perf_sections.specs.Attributes.{attribute_at}
 use Rattle.perf_sections.specs.IdSections.{entry_count}
 use Rattle.perf_sections.specs.Opens.{◌>>=◌, each_from}
 use Rattle.perf_sections.specs.declared.section.Section.{Section}
-use Rattle.perf_file.proofs.Stepping.{step, stop, over, front_more}
+use Rattle.perf_outlines.proofs.Stepping.{step, stop, over, front_more}
 use Rattle.perf_event_c.specs.FileEvents.{flat_event}
 use Rattle.perf_event_c.specs.declared.file_events.FlatEvent.{FlatEvent}
 use Rattle.perf_event_c.proofs.FileLaws.{drop_some}

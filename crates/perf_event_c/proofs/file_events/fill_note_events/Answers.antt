@@ -2,9 +2,9 @@ use Rattle.std.proofs.Common.{◌≤◌, ◌++◌, List, Ok, map, length, take, 
 use Rattle.std.specs.List.{filter}
 use Rattle.std.proofs.lemmas.List.{take_all, append-nil}
 use Rattle.perf_base.specs.declared.sys.perf_event_attr.{perf_event_attr}
-use Rattle.perf_file.specs.PipeOutlines.{from_notes}
+use Rattle.perf_outlines.specs.PipeOutlines.{from_notes}
 use Rattle.perf_file.specs.Pipes.{FrameNote, is_of, noted_attribute}
-use Rattle.perf_file.proofs.PipeCounts.{none_left}
+use Rattle.perf_outlines.proofs.PipeCounts.{none_left}
 use Rattle.perf_event_c.specs.FileEvents.{flat_event}
 use Rattle.perf_event_c.specs.declared.file_events.FlatEvent.{FlatEvent}
 use Rattle.perf_event_c.proofs.file_events.fill_note_events.Goals as goal

@@ -1,7 +1,7 @@
 use Rattle.std.proofs.Common.{◌≡◌, ◌+◌, ◌++◌, Ok, map, length, take, drop, zip}
 use Rattle.std.specs.List.{filter}
 use Rattle.perf_file.specs.NoteViews.{notes_left}
-use Rattle.perf_file.specs.PipeOutlines.{from_notes}
+use Rattle.perf_outlines.specs.PipeOutlines.{from_notes}
 use Rattle.perf_file.specs.Pipes.{is_of, all_frames, noted_attribute}
 use Rattle.perf_event_c.specs.FileEvents.{flat_event, note_events}
 use Rattle.perf_event_c.proofs.file_events.fill_note_events.Given as goal

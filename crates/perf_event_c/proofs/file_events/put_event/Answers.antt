@@ -4,10 +4,10 @@ use Rattle.std.proofs.lemmas.Grind.{take-set_at}
 use Rattle.std.proofs.lemmas.List.{append_assoc}
 use Rattle.std.proofs.lemmas.Result.{err_from_is_err_and}
 use Rattle.perf_file.specs.NoteViews.{note_of}
-use Rattle.perf_file.specs.PipeOutlines.{from_notes}
+use Rattle.perf_outlines.specs.PipeOutlines.{from_notes}
 use Rattle.perf_file.specs.Pipes.{is_of, noted_attribute}
 use Rattle.perf_sections.specs.declared.section.Section.{Section}
-use Rattle.perf_file.proofs.PipeCounts.{reads_one, stops_at, made_alike, counts_one}
+use Rattle.perf_outlines.proofs.PipeCounts.{reads_one, stops_at, made_alike, counts_one}
 use Rattle.perf_event_c.specs.FileEvents.{flat_event}
 use Rattle.perf_event_c.specs.declared.file_events.FlatEvent.{FlatEvent}
 use Rattle.perf_event_c.proofs.FileLaws.{drop_some}

@@ -2,10 +2,10 @@ use Rattle.std.proofs.Common.{◌≡◌, List, Ok, All, length, drop, ap, sym, s
 use Rattle.std.proofs.lemmas.Result.{err_from_is_err_and}
 use Rattle.perf_base.specs.Dynamic.{order_of}
 use Rattle.perf_sections.specs.Opened.{opened_file}
-use Rattle.perf_file.specs.Outlines.{id_count, table_in}
+use Rattle.perf_outlines.specs.Outlines.{id_count, table_in}
 use Rattle.perf_sections.specs.Sections.{IsInside}
 use Rattle.perf_sections.specs.declared.section.Section.{Section}
-use Rattle.perf_file.proofs.InMemory.{has_events, parts_refused}
+use Rattle.perf_outlines.proofs.InMemory.{has_events, parts_refused}
 use Rattle.perf_event_c.specs.FileEvents.{flat_events}
 use Rattle.perf_event_c.proofs.FileLaws.{opens_file, event_list, file_table, places_refused, read_ends, ids_room, rest_is, all_after}
 use Rattle.perf_event_c.proofs.NameLaws.{have_ids, always_ok}

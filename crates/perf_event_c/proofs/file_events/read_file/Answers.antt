@@ -1,7 +1,7 @@
 use Rattle.std.proofs.Common.{◌≡◌, Result, Err, refl, ap, ◌∙◌}
 use Rattle.perf_sections.specs.declared.error.OpenError.{OpenError}
-use Rattle.perf_file.specs.declared.summary.Outline.{Outline}
-use Rattle.perf_file.proofs.InMemory.{outline_refused}
+use Rattle.perf_outlines.specs.declared.summary.Outline.{Outline}
+use Rattle.perf_outlines.proofs.InMemory.{outline_refused}
 use Rattle.perf_event_c.specs.Files.{open_code}
 use Rattle.perf_event_c.proofs.file_events.read_file.Goals as goal
 

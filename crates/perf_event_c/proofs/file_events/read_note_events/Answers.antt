@@ -2,11 +2,11 @@ use Rattle.std.proofs.Common.{◌≡◌, ℕ, List, Ok, length, map, drop, zip, 
 use Rattle.std.specs.List.{filter}
 use Rattle.std.proofs.lemmas.List.{length-drop}
 use Rattle.std.proofs.lemmas.Result.{err_from_is_err_and}
-use Rattle.perf_file.specs.PipeOutlines.{note_sections}
+use Rattle.perf_outlines.specs.PipeOutlines.{note_sections}
 use Rattle.perf_file.specs.Pipes.{is_of, all_frames, opened_pipe, each_of, noted_attribute}
 use Rattle.perf_sections.specs.declared.section.Section.{Section}
-use Rattle.perf_file.proofs.PipeCounts.{ids_fit}
-use Rattle.perf_file.proofs.PipeInMemory.{has_note_events, outline_count, sections_refused, attributes_refused}
+use Rattle.perf_outlines.proofs.PipeCounts.{ids_fit}
+use Rattle.perf_outlines.proofs.PipeInMemory.{has_note_events, outline_count, sections_refused, attributes_refused}
 use Rattle.perf_event_c.specs.FileEvents.{flat_event, note_events, HaveIds}
 use Rattle.perf_event_c.proofs.FileLaws.{opens_pipe, note_list, places_refused, read_ends, only_first}
 use Rattle.perf_event_c.proofs.NameLaws.{ids_inside, always_ok}

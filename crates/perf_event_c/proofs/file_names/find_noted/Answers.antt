@@ -1,6 +1,6 @@
 use Rattle.std.proofs.Common.{drop, get_or, ap, ◌∙◌, arith}
 use Rattle.perf_base.specs.Dynamic.{order_of}
-use Rattle.perf_file.specs.NotePlaces.{bytes_of}
+use Rattle.perf_outlines.specs.NotePlaces.{bytes_of}
 use Rattle.perf_file.specs.Pipes.{named_by, last_name, all_frames}
 use Rattle.perf_event_c.specs.FlatNames.{flat_name, described_by}
 use Rattle.perf_event_c.proofs.NameLaws.{name_alike}

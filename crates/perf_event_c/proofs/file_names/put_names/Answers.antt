@@ -4,7 +4,7 @@ use Rattle.std.proofs.lemmas.Grind.{take-set_at}
 use Rattle.std.proofs.lemmas.List.{take_all, take_more, map_push}
 use Rattle.perf_base.specs.Dynamic.{order_of}
 use Rattle.perf_sections.specs.NamePlaces.{HasRank, rank_of}
-use Rattle.perf_file.specs.NotePlaces.{bytes_of}
+use Rattle.perf_outlines.specs.NotePlaces.{bytes_of}
 use Rattle.perf_sections.specs.Names.{Name, described_or, name_by_numbers}
 use Rattle.perf_event_c.specs.FlatNames.{flat_key, flat_name, described_by, nameless}
 use Rattle.perf_event_c.specs.declared.file_events.FlatEvent.{FlatEvent}

@@ -1,6 +1,6 @@
 use Rattle.std.proofs.Common.{◌≡◌, map, take}
 use Rattle.perf_base.specs.Dynamic.{order_of}
-use Rattle.perf_file.specs.NotePlaces.{bytes_of}
+use Rattle.perf_outlines.specs.NotePlaces.{bytes_of}
 use Rattle.perf_event_c.specs.FlatNames.{flat_name, described_by, nameless}
 use Rattle.perf_event_c.proofs.file_names.put_names.Given as goal
 

@@ -1,10 +1,10 @@
 use Rattle.std.proofs.Common.{◌≡◌, ◌∷◌, List, All, drop, get_or, refl, ap, sym, subst, ◌∙◌, arith}
 use Rattle.std.proofs.lemmas.List.Elements.{All-head, All-tail}
 use Rattle.perf_base.specs.Dynamic.{order_of}
-use Rattle.perf_file.specs.NotePlaces.{IsPlaced}
+use Rattle.perf_outlines.specs.NotePlaces.{IsPlaced}
 use Rattle.perf_file.specs.NoteViews.{note_of, notes_left}
 use Rattle.perf_file.specs.Pipes.{FrameNote, named_by, last_name, all_frames}
-use Rattle.perf_file.proofs.NotePlacing.{all_placed}
+use Rattle.perf_outlines.proofs.NotePlacing.{all_placed}
 use Rattle.perf_event_c.specs.FlatNames.{flat_name}
 use Rattle.perf_event_c.proofs.file_names.rename_all.Goals as goal
 

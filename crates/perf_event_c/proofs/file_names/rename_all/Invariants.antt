@@ -1,7 +1,7 @@
 use Rattle.std.proofs.Common.{◌≡◌, ◌<◌, ℕ, All, length, map, drop, get_or}
 use Rattle.std.specs.List.Sorted.{IsNonDecreasingBy}
 use Rattle.perf_base.specs.Dynamic.{order_of}
-use Rattle.perf_file.specs.NotePlaces.{IsPlaced}
+use Rattle.perf_outlines.specs.NotePlaces.{IsPlaced}
 use Rattle.perf_file.specs.NoteViews.{notes_left}
 use Rattle.perf_file.specs.Pipes.{named_by, last_name, all_frames}
 use Rattle.perf_sections.specs.declared.ids.IdOfEvent.{IdOfEvent}

@@ -1,0 +1,4 @@
+pub mod Filled
+pub mod Outlines
+pub mod PipeOutlines
+pub mod NotePlaces
