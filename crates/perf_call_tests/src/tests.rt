@@ -1,0 +1,6 @@
+//! The tests.
+
+mod checks;
+mod metadata;
+mod parser_calls;
+mod reads;
