@@ -7,7 +7,8 @@ Every second it reads the processor time of each process of the prover, with wha
 a crate, that of its tests, an edit of it, or compiling it. A compiler or linker that the prover or `rt` starts counts
 as compiling the same crate. Other processes below the command are in a second table, by what runs: a program in a
 crate's out/, the first argument of an interpreter, or the process's own name. At the end it prints both tables and the
-time of the whole command, by the clock and on processors. With --log FILE the tables so far are also written there each
+time of the whole command, by the clock and on processors; if it runs where `crates.txt` is, also the longest path: the
+dearest chain of proofs of which each waits for the one before it, with the tests of its last crate. With --log FILE the tables so far are also written there each
 minute. A process of which less than a second is seen counts in the whole alone. The status is that of the command.
 """
 import itertools
@@ -69,6 +70,35 @@ def other_of(name, words):
     return os.path.basename(script if is_script else words[0].partition(" ")[0] if words else "") or name
 
 
+def uses_of_crates():
+    """The libraries that each crate of `crates.txt` uses, if that is in this folder."""
+    try:
+        with open("crates.txt", encoding="utf-8") as it:
+            lines = [line.partition(":") for line in it if ":" in line and not line.startswith("#")]
+    except OSError:
+        return {}
+    return {name.split()[0]: libraries.split() for name, _, libraries in lines}
+
+
+def longest_path(rows, uses):
+    """The seconds of the dearest chain of proofs with the tests of its last crate, and each crate of it with its own."""
+    known = {}
+
+    def chain_to(crate):
+        if crate not in known:
+            before, chain = max(map(chain_to, uses.get(crate, ())), default=(0.0, []))
+            proof = rows.get(crate, {}).get("proof", 0.0)
+            known[crate] = before + proof, [*chain, (crate, proof)]
+        return known[crate]
+
+    def with_tests(crate):
+        seconds, chain = chain_to(crate)
+        tests = rows.get(crate, {}).get("tests", 0.0)
+        return (seconds + tests, [*chain, ("its tests", tests)]) if tests else (seconds, chain)
+
+    return max(map(with_tests, uses), default=(0.0, []))
+
+
 class Times:
     """The processor time of each process that was seen, by what it works on."""
 
@@ -113,7 +143,8 @@ class Times:
                 return os.path.basename(folder), "compiling"
         return (other_of(name, words),)
 
-    def table(self):
+    def sums(self):
+        """The seconds of each crate by KINDS, and of all else by what ran."""
         sums, others = {}, {}
         for (_, _, _, what), seconds in self.seen.items():
             if len(what) == 1:
@@ -121,6 +152,10 @@ class Times:
             else:
                 row = sums.setdefault(what[0], dict.fromkeys(KINDS, 0.0))
                 row[what[1]] += seconds
+        return sums, others
+
+    def table(self):
+        sums, others = self.sums()
         lines = ["| Crate | " + " | ".join(KINDS) + " | all |", "|---" * (len(KINDS) + 2) + "|"]
         rows = sorted(sums.items(), key=lambda it: -sum(it[1].values()))
         total = {kind: sum(row[kind] for _, row in rows) for kind in KINDS}
@@ -130,6 +165,10 @@ class Times:
         lines += ["", "| Others | minutes |", "|---|---|"]
         for name, seconds in [*sorted(others.items(), key=lambda it: -it[1])[:MOST], ("all", sum(others.values()))]:
             lines.append(f"| {name} | {seconds / 60:.1f} |")
+        seconds, chain = longest_path(sums, uses_of_crates())
+        if seconds:
+            told = ", ".join(f"{name} {own / 60:.1f}" for name, own in chain if own)
+            lines += ["", f"the longest path, of {seconds / 60:.1f} minutes: {told}"]
         return "\n".join(lines)
 
 
