@@ -3,17 +3,18 @@
 
 use perf_event_data::parse::ParseResult;
 use std::alloc::AllocError;
+use std::fmt::Debug;
 use std::process::Abort;
 
-// Asserts that a text is the expected one, and names what it is of if not.
-fn check_str(rt: &impl Abort, what: &str, actual: &str, want: &str) {
-    assert_eq!(rt; actual, want, "{what}");
+/// Asserts that a value is the expected one, and names what it is if not.
+pub fn check_same<T: PartialEq + Debug + Drop>(rt: &impl Abort, what: &str, value: T, want: T) {
+    assert_eq!(rt; value, want, "{what}");
 }
 
 /// Asserts that there was memory for a text, and that it is the expected one.
 pub fn check_text(rt: &impl Abort, answer: Result<String, AllocError>, want: &str) {
     match answer {
-        Ok(text) => check_str(rt, "the text", text.as_str(), want),
+        Ok(text) => check_same(rt, "the text", text.as_str(), want),
         Err(_) => panic!(rt; "no memory"),
     }
 }
@@ -21,7 +22,12 @@ pub fn check_text(rt: &impl Abort, answer: Result<String, AllocError>, want: &st
 /// Asserts that a call returned a text, and that it is the expected one.
 pub fn check_answer(rt: &impl Abort, what: &str, answer: ParseResult<String>, want: &str) {
     match answer {
-        Ok(text) => check_str(rt, what, text.as_str(), want),
+        Ok(text) => check_same(rt, what, text.as_str(), want),
         Err(error) => panic!(rt; "{what}: {error}"),
     }
+}
+
+/// Asserts the `{:?}` of a value: all of its fields, and of each list whether it is borrowed.
+pub fn check_debug<T: Debug + Drop>(rt: &(impl AllocGlobal + Abort), value: T, want: &str) {
+    check_text(rt, format!(in rt.alloc(); "{value:?}"), want);
 }

@@ -33,8 +33,3 @@ pub fn check_written(rt: &impl Abort, value: (&[u8], Outcome), want: (&[u8], Out
 pub fn check_kept(rt: &impl Abort, value: (&[u8], bool), want: (&[u8], bool)) {
     check_same(rt, "what is kept", value, want);
 }
-
-/// Asserts the `{:?}` of a value: all of its fields, and of each list whether it is borrowed.
-pub fn check_debug<T: Debug + Drop>(rt: &(impl AllocGlobal + Abort), value: T, want: &str) {
-    check_text(rt, format!(in rt.alloc(); "{value:?}"), want);
-}
