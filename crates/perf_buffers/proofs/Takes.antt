@@ -8,7 +8,9 @@ use Rattle.std.proofs.lemmas.List.Folds.{list_all-append}
 use Rattle.std.specs.Prelude.{◌==◌, ◌&&◌}
 use Rattle.perf_base.specs.Zeros.{all_zero}
 use Rattle.perf_buffers.specs.Buffer.{Source}
-use Rattle.perf_buffers.specs.Taking.{Takes, Moves, bytes_between}
+use Rattle.perf_buffers.specs.Taking.{Takes, Moves, bytes_between, FailsInRest}
+use Rattle.perf_base.specs.declared.error.ErrorKind.{ErrorKind}
+use Rattle.perf_base.specs.declared.error.ErrorKind.TheVariants.{Eof, InvalidRecord, UnsupportedConfig, UnsupportedData, External, OutOfMemory}
 
 pub takes_more : (a b c : Source) (n k : ℕ) → Takes a n b → Takes b k c → Takes a (n + k) c
 takes_more a b c n k p q =
@@ -42,6 +44,15 @@ takes_moves a b n p =
     let left : length b.left ≡ length a.left - n = ap length p.1 ∙ length-drop n a.left in
     let taken : bytes_between a b ≡ n = omega arith in
     (omega arith, p.1 ∙ sym (ap (λ k. drop k a.left) taken))
+
+-- a read of all that is left, after some bytes were taken
+pub rest_more : (a b c : Source) (n : ℕ) (e : ErrorKind) → Takes a n b → FailsInRest b e c → FailsInRest a e c
+rest_more a b c n Eof p h = h
+rest_more a b c n External p h = moves_more a b c (takes_moves a b n p) h
+rest_more a b c n InvalidRecord p h = h
+rest_more a b c n UnsupportedConfig p h = h
+rest_more a b c n UnsupportedData p h = h
+rest_more a b c n OutOfMemory p h = moves_more a b c (takes_moves a b n p) h
 
 -- some bytes, and then others
 pub zero_on : (a n : ℕ) (left rest : List ℕ) (was more now : Bool) → rest ≡ drop a left → was ≡ all_zero (take a left) → more ≡ all_zero (take n rest) → now ≡ (was && more) → now ≡ all_zero (take (a + n) left)

@@ -1,7 +1,10 @@
 -- Notes read one after another, as a loop does.
-use Rattle.std.proofs.Common.{◌≡◌, ℕ, suc, ◌+◌, ◌≤◌, ◌<◌, List, [], ◌∷◌, ◌++◌, length, map, drop, get_or, Result, Ok, Err, refl, sym, ap, ◌∙◌}
+use Rattle.std.specs.List.{filter}
+use Rattle.std.specs.Prelude.{◌≢◌}
+use Rattle.std.proofs.lemmas.Bool.{eqb-true}
+use Rattle.std.proofs.Common.{nat_eq, Bool, true, false, append_assoc, ◌≡◌, ℕ, suc, ◌+◌, ◌≤◌, ◌<◌, List, [], ◌∷◌, ◌++◌, length, map, drop, get_or, Result, Ok, Err, refl, sym, ap, ◌∙◌}
 use Rattle.std.proofs.Math.ListN.{drop_of_length-le}
-use Rattle.std.proofs.lemmas.List.{append-nil, drop_more}
+use Rattle.std.proofs.lemmas.List.{append-nil, drop_more, map-append}
 use Rattle.perf_file.specs.NoteViews.{note_of}
 use Rattle.perf_sections.specs.Opens.{◌>>=◌}
 use Rattle.perf_file.specs.Pipes.{FrameNote, each_of}
@@ -58,3 +61,39 @@ each_length {A} item i (n ∷ ns) xs h = go (item i n) (each_of item (i + 1) ns)
 
 pub same_length : {A B : Type 0} (f : ℕ → FrameNote → Result A OpenError) (g : ℕ → FrameNote → Result B OpenError) (i : ℕ) (ns : List FrameNote) (xs : List A) (ys : List B) → each_of f i ns ≡ Ok xs → each_of g i ns ≡ Ok ys → length xs ≡ length ys
 same_length f g i ns xs ys a b = each_length f i ns xs a ∙ sym (each_length g i ns ys b)
+
+-- ---- some of the notes
+
+pub none_yet : (keep : FrameNote → Bool) (found list : List Note) → found ≡ [] → map note_of found ++ filter keep (map note_of (drop 0 list)) ≡ filter keep (map note_of list)
+none_yet keep found list none = rw none refl
+
+-- the note at an index is one of them, or it is not
+pub one_more : (keep : FrameNote → Bool) (found list : List Note) (i : ℕ) (x : Note) (total : List FrameNote) → i < length list → x ≡ get_or list i x → keep (note_of x) ≡ true
+    → map note_of found ++ filter keep (map note_of (drop i list)) ≡ total → map note_of (found ++ x ∷ []) ++ filter keep (map note_of (drop (i + 1) list)) ≡ total
+one_more keep found list i x total lt is kept so_far =
+    let rest : List FrameNote = map note_of (drop (i + 1) list) in
+    let first : filter keep (map note_of (drop i list)) ≡ note_of x ∷ filter keep rest = ap (λ (ns : List FrameNote). filter keep ns) (here list i x lt is) ∙ rw kept refl in
+    let grouped : (map note_of found ++ note_of x ∷ []) ++ filter keep rest ≡ map note_of found ++ note_of x ∷ filter keep rest = simp append_assoc in
+    ap (λ (ns : List FrameNote). ns ++ filter keep rest) (map-append note_of found (x ∷ []))
+    ∙ grouped
+    ∙ ap (λ (ns : List FrameNote). map note_of found ++ ns) (sym first)
+    ∙ so_far
+
+pub no_more : (keep : FrameNote → Bool) (found list : List Note) (i : ℕ) (x : Note) (total : List FrameNote) → i < length list → x ≡ get_or list i x → keep (note_of x) ≡ false
+    → map note_of found ++ filter keep (map note_of (drop i list)) ≡ total → map note_of found ++ filter keep (map note_of (drop (i + 1) list)) ≡ total
+no_more keep found list i x total lt is left so_far =
+    let first : filter keep (map note_of (drop i list)) ≡ filter keep (map note_of (drop (i + 1) list)) = ap (λ (ns : List FrameNote). filter keep ns) (here list i x lt is) ∙ rw left refl in
+    ap (λ (ns : List FrameNote). map note_of found ++ ns) (sym first) ∙ so_far
+
+pub all_found : (keep : FrameNote → Bool) (found list : List Note) (i : ℕ) (total : List FrameNote) → length list ≤ i
+    → map note_of found ++ filter keep (map note_of (drop i list)) ≡ total → map note_of found ≡ total
+all_found keep found list i total le so_far =
+    sym (append-nil (map note_of found)) ∙ ap (λ (ns : List FrameNote). map note_of found ++ filter keep ns) (sym (none_left list i le)) ∙ so_far
+
+-- a number is another one
+pub other_type : (m n : ℕ) → m ≢ n → nat_eq m n ≡ false
+other_type m n other = go (nat_eq m n) refl
+  where
+    go : (b : Bool) → nat_eq m n ≡ b → nat_eq m n ≡ false
+    go true e = absurd (other (eqb-true m n e))
+    go false e = e

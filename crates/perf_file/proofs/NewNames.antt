@@ -69,3 +69,19 @@ all_named o notes table now old by n d same found lt named renamed =
     ∙ ap (λ m. named_by (last_name o table n notes) m) (named ∙ ap by seen)
     ∙ ap (λ l. named_by l (by (event_view (get_or now n d)))) (same_names o table (table_of (map event_view old)) n notes found
     ∙ ap (λ (es : List FileEvent). last_name o (table_of es) n notes) (sym same))
+
+-- one event has the new name of a note, and the others stay
+pub one_renamed : (o : Order) (table : List IdOfEvent) (x : FrameNote) (event : ℕ) (name : List ℕ) (now old : List Event) (k : ℕ) (d : Event) (rest : List FrameNote)
+    → named_event o table x ≡ Some event → name ≡ new_name x → name_view (get_or now event d).name ≡ described name → (k ≢ event → get_or now k d ≡ get_or old k d)
+    → named_by (last_name o table k rest) (name_view (get_or now k d).name) ≡ named_by (last_name o table k (x ∷ rest)) (name_view (get_or old k d).name)
+one_renamed o table x event name now old k d rest is same there others = go (nat_eq k event) refl
+  where
+    go : (b : Bool) → nat_eq k event ≡ b → named_by (last_name o table k rest) (name_view (get_or now k d).name) ≡ named_by (last_name o table k (x ∷ rest)) (name_view (get_or old k d).name)
+    go true e =
+        let at : k ≡ event = eqb-true k event e in
+        ap (λ m. named_by (last_name o table k rest) m) (ap (λ i. name_view (get_or now i d).name) at ∙ there)
+        ∙ gets_name o table k x rest name (name_view (get_or old k d).name) (is ∙ ap (λ i. Some i) (sym at)) same
+    go false e =
+        let other : k ≢ event = λ at. let yes : nat_eq k event ≡ true = eq-eqb k event at in cc in
+        ap (λ (y : Event). named_by (last_name o table k rest) (name_view y.name)) (others other)
+        ∙ keeps_name o table k x rest (name_view (get_or old k d).name) (other_event (named_event o table x) event k is other)

@@ -45,6 +45,13 @@ body_there o bytes found long is =
     let n = length-drop 8 bytes in
     (omega (arith, here.0, n, long), here.1)
 
+-- so are those bytes as the code has them
+pub body_fits : (o : Order) (bytes body : List ℕ) (found : Sight) → 8 ≤ length bytes → found ≡ sight_in o bytes true → body ≡ body_seen found → 8 + length body ≤ length bytes
+body_fits o bytes body found long is seen = rw seen ((body_there o bytes found long is).0)
+
+pub body_is : (o : Order) (bytes body : List ℕ) (found : Sight) → 8 ≤ length bytes → found ≡ sight_in o bytes true → body ≡ body_seen found → slice bytes 8 (length body) ≡ body_seen found
+body_is o bytes body found long is seen = rw seen ((body_there o bytes found long is).1)
+
 -- ---- one after another
 
 pub next_note : (order_frames : File) (bytes after : List ℕ) (x : FrameNote) → 8 ≤ length bytes → x ≡ note_in (piece_in order_frames bytes) → after ≡ after_piece (order_of order_frames.order) bytes

@@ -8,6 +8,7 @@ pub mod Calls
 pub mod Steps
 pub mod NameEnds
 pub mod After
+pub mod Fields
 pub mod TableRuns
 pub mod ZeroTails
 pub mod Attributes

@@ -1,7 +1,9 @@
 -- How the header of a run's next frame is read, and how a run stops if there is none.
 use Rattle.std.proofs.Common.{◌≡◌, ℕ, ◌+◌, ◌-◌, ◌<◌, ◌≤◌, List, [], ◌∷◌, length, take, drop, arith, refl, sym, ◌∙◌, ap, subst, length-drop, inl, inr}
-use Rattle.std.specs.Prelude.{IsTrue, ◌⊎◌}
+use Rattle.std.specs.Prelude.{IsTrue, IfErr, Option, None, Some, Result, Ok, Err, ◌⊎◌}
 use Rattle.std.proofs.lemmas.Bool.{cases_lt}
+use Rattle.perf_base.specs.Configured.{endian_of}
+use Rattle.perf_base.specs.Header.{header_of}
 use Rattle.perf_base.specs.Layout.{byte_string}
 use Rattle.perf_base.specs.Order.{Order}
 use Rattle.perf_base.specs.Refusals.{refusal_kind}
@@ -9,14 +11,17 @@ use Rattle.perf_base.specs.Took.{Took, took, quit, one_took}
 use Rattle.perf_base.specs.declared.error.ErrorKind.{ErrorKind}
 use Rattle.perf_base.specs.declared.error.ErrorKind.TheVariants.{Eof, InvalidRecord, UnsupportedConfig, UnsupportedData, External, OutOfMemory}
 use Rattle.perf_base.specs.declared.refusal.Refusal.{Refusal}
+use Rattle.perf_base.specs.declared.sys.perf_event_header.{perf_event_header}
 use Rattle.perf_buffers.specs.Buffer.{Source, Refuses}
 use Rattle.perf_buffers.specs.Taking.{MovesWithin, Takes}
 use Rattle.perf_buffers.proofs.Takes.{moves_more}
-use Rattle.perf_reader.specs.Headers.{frame_length, MovesWithinFrame, StopsAt}
-use Rattle.perf_reader.specs.ReaderState.{ReaderState}
+use Rattle.perf_reader.specs.Calls.{Call}
+use Rattle.perf_reader.specs.Headers.{frame_length, MovesWithinFrame, ReadsHeader, ReadsShownHeader, StopsAt}
+use Rattle.perf_reader.specs.ReaderState.{ReaderState, state_of}
 use Rattle.perf_reader.specs.Reading.{of_layout, last_of}
 use Rattle.perf_reader.specs.declared.header.Stop.{Stop}
 use Rattle.perf_reader.specs.declared.header.Stop.TheVariants as stop
+use Rattle.perf_reader.specs.declared.reader.Reader.{Reader}
 use Rattle.perf_reader.proofs.Calls.{last_moved, last_all, within_taken}
 use Rattle.perf_reader.proofs.Steps.{run_there, run_short}
 
@@ -126,3 +131,48 @@ stops_unshown old new r s eof other why told same count = elim (layout_or_not (r
       let long : length new.source.left ≡ length old.source.left = ap length same in
       subst (λ (x : Stop). StopsAt old x new) (sym (other (not_the_end (refusal_kind r) none))) (none, (omega (arith, long), omega (arith, long), same ∙ sym (last_all old.source.left) ∙ ap (λ k. last_of k old.source.left) (sym long)))
 ]
+
+-- ---- a header of which the buffer did not show all, so that nothing was taken
+
+header_unshown : (old mid new : ReaderState) (outcome : Result perf_event_header ErrorKind) → mid.order ≡ old.order → (mid.source.left ≡ old.source.left) × (mid.reads ≡ old.reads) → ReadsHeader mid outcome new → ReadsHeader old outcome new
+header_unshown old mid new (Ok h) order same p = (
+  subst (λ (xs : List ℕ). 8 ≤ length xs) same.0 p.0,
+  p.1 ∙ ap (λ (k : Order). header_of k mid.source.left) order ∙ ap (header_of old.order) same.0,
+  p.2 ∙ ap (drop 8) same.0,
+  p.3 ∙ ap (λ n. n + 2) same.1,
+)
+header_unshown old mid new (Err e) order same p = tt
+
+unshown_stop : (old mid new : ReaderState) (s : Stop) → mid.order ≡ old.order → (mid.source.left ≡ old.source.left) × (mid.reads ≡ old.reads) → StopsAt mid s new → StopsAt old s new
+unshown_stop old mid new stop.Done order same p = (sym same.0 ∙ p.0, p.1, p.2 ∙ ap (λ n. n + 1) same.1)
+unshown_stop old mid new stop.CutHeader order same p = (
+  subst (λ (xs : List ℕ). 0 < length xs) same.0 p.0,
+  subst (λ (xs : List ℕ). length xs < 8) same.0 p.1,
+  p.2,
+  p.3 ∙ ap (λ n. n + 2) same.1,
+)
+unshown_stop old mid new (stop.Refused r) order same p =
+    (p.0, subst (λ (xs : List ℕ). MovesWithinFrame old.order xs new.source.left) same.0 (subst (λ (k : Order). MovesWithinFrame k mid.source.left new.source.left) order p.1))
+
+unshown_stops : {A : Type 0} (old mid new : ReaderState) (result : Result A Stop) → mid.order ≡ old.order → (mid.source.left ≡ old.source.left) × (mid.reads ≡ old.reads) → IfErr result (λ s. StopsAt mid s new) → IfErr result (λ s. StopsAt old s new)
+unshown_stops old mid new (Ok h) order same p = tt
+unshown_stops old mid new (Err s) order same p = unshown_stop old mid new s order same p
+
+module _ {I E : Type 0} {source : I → Source} {order : E → Order} {a b : Reader I E} where
+  -- it is read in two parts instead
+  pub read_in_two : {c : Reader I E} (shown : Option perf_event_header) (outcome : Result perf_event_header ErrorKind) → shown ≡ None → Call source order ReadsShownHeader a (Ok shown) b → Call source order ReadsHeader b outcome c → Call source order ReadsHeader a outcome c
+  read_in_two (Some h) outcome none first next = cc
+  read_in_two {c} None outcome none first next = record {
+    config = next.config ∙ first.config;
+    whole = next.whole ∙ first.whole;
+    told = λ t. next.told (first.told t);
+    answer = λ t. header_unshown (state_of source order a) (state_of source order b) (state_of source order c) outcome
+        (ap (λ k. order (endian_of k)) first.config) (first.answer t) (next.answer (first.told t));
+    keeps = λ start k. next.keeps start (first.keeps start k);
+  }
+
+  -- and a run stops there
+  pub stops_in_two : {A : Type 0} (c : Reader I E) (shown : Option perf_event_header) (result : Result A Stop) → shown ≡ None → Call source order ReadsShownHeader a (Ok shown) b →
+      (IsTrue (source b.input).told → IfErr result (λ s. StopsAt (state_of source order b) s (state_of source order c))) → IsTrue (source a.input).told → IfErr result (λ s. StopsAt (state_of source order a) s (state_of source order c))
+  stops_in_two c (Some h) result none first next told = cc
+  stops_in_two c None result none first next told = unshown_stops (state_of source order a) (state_of source order b) (state_of source order c) result (ap (λ k. order (endian_of k)) first.config) (first.answer told) (next (first.told told))

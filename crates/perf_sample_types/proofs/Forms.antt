@@ -1,6 +1,6 @@
 -- Lists that are all borrowed, or all owned: the first ones and those after them. The lists of
 -- groups are those of their fields.
-use Rattle.std.proofs.Common.{◌≡◌, Bool, List, [], ◌∷◌, ◌++◌, append_assoc, sym, ◌∙◌, ap}
+use Rattle.std.proofs.Common.{◌≡◌, Bool, List, [], ◌∷◌, ◌++◌, append_assoc, refl, sym, ◌∙◌, ap}
 use Rattle.perf_base.specs.Copies.{AllAre}
 
 pub all_front : (borrowed : Bool) (xs ys : List Bool) → AllAre borrowed (xs ++ ys) → AllAre borrowed xs
@@ -29,3 +29,30 @@ pub four_stay : (xs ys zs us vs xs' ys' zs' us' vs' : List Bool) → xs ++ (ys +
     xs ++ (ys ++ (zs ++ (us ++ vs))) ≡ xs' ++ (ys' ++ (zs' ++ (us' ++ vs')))
 four_stay xs ys zs us vs xs' ys' zs' us' vs' four after =
     sym (four_ahead xs ys zs us vs) ∙ ap (λ ls. ls ++ vs) four ∙ ap (λ ls. (xs' ++ (ys' ++ (zs' ++ us'))) ++ ls) after ∙ four_ahead xs' ys' zs' us' vs'
+
+-- four lists stay the same, if each of them does
+pub each_stays : {A : Type 0} (xs ys zs us xs' ys' zs' us' : List A) → xs ≡ xs' → ys ≡ ys' → zs ≡ zs' → us ≡ us' →
+    xs ++ (ys ++ (zs ++ us)) ≡ xs' ++ (ys' ++ (zs' ++ us'))
+each_stays xs ys zs us xs' ys' zs' us' first second third last = rw (first, second, third, last) refl
+
+-- four values of a list stay the same, if each of them does
+pub values_stay : {A : Type 0} (x y z u x' y' z' u' : A) → x ≡ x' → y ≡ y' → z ≡ z' → u ≡ u' → x ∷ y ∷ z ∷ u ∷ [] ≡ x' ∷ y' ∷ z' ∷ u' ∷ []
+values_stay x y z u x' y' z' u' first second third last = rw (first, second, third, last) refl
+
+-- of four lists that are all borrowed, or all owned, the second, the third and the last
+pub all_second : (borrowed : Bool) (xs ys zs us : List Bool) → AllAre borrowed (xs ++ (ys ++ (zs ++ us))) → AllAre borrowed ys
+all_second borrowed xs ys zs us all = all_front borrowed ys (zs ++ us) (all_back borrowed xs (ys ++ (zs ++ us)) all)
+
+pub all_third : (borrowed : Bool) (xs ys zs us : List Bool) → AllAre borrowed (xs ++ (ys ++ (zs ++ us))) → AllAre borrowed zs
+all_third borrowed xs ys zs us all = all_front borrowed zs us (all_back borrowed ys (zs ++ us) (all_back borrowed xs (ys ++ (zs ++ us)) all))
+
+pub all_last : (borrowed : Bool) (xs ys zs us : List Bool) → AllAre borrowed (xs ++ (ys ++ (zs ++ us))) → AllAre borrowed us
+all_last borrowed xs ys zs us all = all_back borrowed zs us (all_back borrowed ys (zs ++ us) (all_back borrowed xs (ys ++ (zs ++ us)) all))
+
+-- lists in groups of two, four and two are eight lists in a row, of which the first is kept and the others stay the same
+pub groups_in_a_row : (ns bs xs ys zs us vs ws bs' xs' ys' zs' us' vs' ws' : List Bool) → bs ≡ bs' → xs ≡ xs' → ys ≡ ys' → zs ≡ zs' → us ≡ us' → vs ≡ vs' → ws ≡ ws' →
+    (ns ++ bs) ++ ((xs ++ (ys ++ (zs ++ us))) ++ (vs ++ ws)) ≡ ns ++ (bs' ++ (xs' ++ (ys' ++ (zs' ++ (us' ++ (vs' ++ ws'))))))
+groups_in_a_row ns bs xs ys zs us vs ws bs' xs' ys' zs' us' vs' ws' b x y z u v w =
+    append_assoc ns bs ((xs ++ (ys ++ (zs ++ us))) ++ (vs ++ ws))
+    ∙ ap (λ ls. ns ++ (bs ++ ls)) (four_ahead xs ys zs us (vs ++ ws))
+    ∙ rw (b, x, y, z, u, v, w) refl

@@ -7,6 +7,7 @@ pub mod Forms
 pub mod GroupRuns
 mod Origins
 pub mod PresentFields
+pub mod ReadParts
 pub mod RowFields
 mod Closed
 mod LawFlags

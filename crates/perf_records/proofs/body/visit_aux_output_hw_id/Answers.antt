@@ -1,9 +1,14 @@
-use Rattle.std.proofs.Common.{rules}
-use Rattle.perf_reader.proofs.Calls.{chain}
+use Rattle.perf_records.specs.Records.{aux_output_hw_id_is}
+use Rattle.perf_types.specs.Numbers.{aux_output_hw_id}
+use Rattle.perf_records.proofs.TypeVisits.{saw_plain, no_plain}
 use Rattle.perf_records.proofs.body.visit_aux_output_hw_id.Goals as goal
 
 pub returns-in-Ok : goal.returns-in-Ok
-returns-in-Ok g c = search (rules, chain)
+returns-in-Ok g c = record {
+  call = saw_plain g.V.Visitor.gives c.args.metadata (λ k. aux_output_hw_id) (λ r. r) aux_output_hw_id_is c.visit_aux_output_hw_id.ensures (λ is. is) c.in-Ok.ensures.call;
+}
 
 pub returns-in-Err : goal.returns-in-Err
-returns-in-Err g c = search (rules, chain)
+returns-in-Err g c = record {
+  call = no_plain g.V.Visitor.gives c.args.metadata (λ k. aux_output_hw_id) (λ r. r) aux_output_hw_id_is c.in-Err.ensures.call;
+}

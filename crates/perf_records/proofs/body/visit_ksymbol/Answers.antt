@@ -1,9 +1,15 @@
-use Rattle.std.proofs.Common.{rules}
-use Rattle.perf_reader.proofs.Calls.{chain}
+use Rattle.perf_base.specs.Cow.{is_borrowed}
+use Rattle.perf_records.specs.Records.{ksymbol_is}
+use Rattle.perf_types.specs.KSymbol.{ksymbol, ksymbol_value}
+use Rattle.perf_records.proofs.TypeVisits.{saw_borrowed, no_borrowed}
 use Rattle.perf_records.proofs.body.visit_ksymbol.Goals as goal
 
 pub returns-in-Ok : goal.returns-in-Ok
-returns-in-Ok g c = search (rules, chain)
+returns-in-Ok g c = record {
+  call = saw_borrowed g.V.Visitor.gives c.args.metadata (λ k. ksymbol) ksymbol_value ksymbol_is (λ r. is_borrowed r.name) c.visit_ksymbol.ensures (λ lent. lent) (λ is. is) c.in-Ok.ensures.call;
+}
 
 pub returns-in-Err : goal.returns-in-Err
-returns-in-Err g c = search (rules, chain)
+returns-in-Err g c = record {
+  call = no_borrowed g.V.Visitor.gives c.args.metadata (λ k. ksymbol) ksymbol_value ksymbol_is c.in-Err.ensures.call;
+}

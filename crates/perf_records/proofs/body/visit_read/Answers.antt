@@ -1,7 +1,12 @@
 use Rattle.perf_records.specs.Records.{read_is, task_read}
 use Rattle.perf_types.specs.Read.{read}
-use Rattle.perf_records.proofs.TypeVisits.{no_plain}
+use Rattle.perf_records.proofs.TypeVisits.{saw_plain, no_plain}
 use Rattle.perf_records.proofs.body.visit_read.Goals as goal
+
+pub returns-in-Ok : goal.returns-in-Ok
+returns-in-Ok g c = record {
+  call = saw_plain g.V.Visitor.gives c.args.metadata read task_read read_is c.visit_read.ensures (λ is. is) c.in-Ok.ensures.call;
+}
 
 pub returns-in-Err : goal.returns-in-Err
 returns-in-Err g c = record {

@@ -97,3 +97,15 @@ returns-clause-call g c =
     let all : length ys ≡ c.args.count = omega (arith, len, c.loop-block-test.false, c.loop-block.invariant.0) in
     row_gives s o (λ v. v.items) c.args.count c.args.self.now c.loop-block.self c.loop-block.numbers
     (row_cast s o (length ys) c.args.count c.args.self.now c.loop-block.self ys ys all refl c.loop-block.invariant.1)
+
+pub returns-clause-enough : goal.returns-clause-enough
+returns-clause-enough g c = λ room. tt
+
+pub slice_bounds-block-end : goal.slice_bounds-block-end
+slice_bounds-block-end g c = omega (arith, c.min-more.ensures, c.loop-block.invariant.2)
+
+pub slice_bounds-read_block-end : goal.slice_bounds-read_block-end
+slice_bounds-read_block-end g c =
+    let more = c.min-more.result in
+    let block : List ℕ = c.loop-block.block in
+    sym (length-take-le more block (omega (arith, c.min-more.ensures, c.loop-block.invariant.2)))

@@ -1,9 +1,12 @@
-use Rattle.std.proofs.Common.{None, refl, ◌<◌, arith}
+use Rattle.std.proofs.Common.{None, refl, ◌≡◌, ◌<◌, arith, sym, ◌∙◌, ap}
 use Rattle.std.proofs.lemmas.Bool.Decides.{nat_tests}
+use Rattle.perf_base.specs.Layout.{byte_string}
+use Rattle.perf_base.specs.LayoutReads.{one_if_any}
 use Rattle.perf_base.specs.Refusals.{refusal_kind}
+use Rattle.perf_base.specs.Took.{one_took}
 use Rattle.perf_reader.specs.ReaderState.{ReaderState, state_of}
 use Rattle.perf_reader.proofs.Calls.{array_keeps, kept_keeps}
-use Rattle.perf_reader.proofs.Steps.{run_there, kept_short}
+use Rattle.perf_reader.proofs.Steps.{run_none, run_there, kept_short}
 use Rattle.perf_reader.proofs.reader.Reader.read_bytes.Goals as goal
 
 pub returns-in-Ok-clause-call : goal.returns-in-Ok-clause-call
@@ -30,4 +33,25 @@ returns-in-Err-clause-call g c =
       told = e.stays.3;
       answer = λ told kind. kept_short old.order c.args.len old.source new.source (refusal_kind c.in-Err.refusal) old.reads new.reads (e.err told) c.tick.ensures kind;
       keeps = λ start p. kept_keeps start old new c.args.len (refusal_kind c.in-Err.refusal) p some c.tick.ensures e.stays e.can_fail (λ told. e.err told);
+    }
+
+pub returns-then-len-eq0 : goal.returns-then-len-eq0
+returns-then-len-eq0 g c =
+    let old : ReaderState = state_of g.I.Input.source g.E.Endian.order c.args.self.now in
+    let none : c.args.len ≡ 0 = c.if-len-eq0.true in
+    let nothing : one_if_any c.args.len ≡ 0 = ap one_if_any none in record {
+      whole = λ whole. refl;
+      whole_memory = λ whole. tt;
+      nothing = λ zero. (refl, refl, refl);
+      short = λ lacks. tt;
+      beforehand = λ told first. tt;
+      counted = omega (arith, nothing);
+      length = sym none;
+      call = record {
+        config = refl;
+        whole = refl;
+        told = λ told. told;
+        answer = λ told. ap (λ k. one_took old.order (byte_string k) old.source.left old.reads) none ∙ run_none old.order old.source.left old.reads;
+        keeps = λ start p. p;
+      };
     }

@@ -1,4 +1,5 @@
-use Rattle.std.proofs.Common.{◌≡◌, ◌≤◌, ◌+◌, ◌*◌, ℕ, List, length, Some, refl, ap, arith}
+use Rattle.std.proofs.Common.{◌≡◌, ◌≤◌, ◌+◌, ◌*◌, ℕ, List, length, Some, refl, sym, ap, arith}
+use Rattle.std.proofs.lemmas.List.{length-take-le}
 use Rattle.perf_base.specs.Refusals.{refusal_kind}
 use Rattle.perf_reader.specs.ReaderState.{ReaderState, state_of}
 use Rattle.perf_reader.proofs.AtHand.{never_short, block_keeps, shown_there}
@@ -39,3 +40,15 @@ returns-clause-shown g c =
           (ap g.E.Endian.order c.endian.ensures) count within s.1 (e.ok told) c.convert.ensures;
       keeps = λ start p. block_keeps start old new (8 * k) k refl p count e.stays e.ok;
     }
+
+pub convert-requires : goal.convert-requires
+convert-requires g c =
+    let k = length c.args.numbers.now in
+    let shown : List ℕ = c.shown_bytes-front.result.now in
+    length-take-le (8 * k) shown (omega (arith, c.if-front-numbers.false))
+
+pub slice_bounds-convert-end : goal.slice_bounds-convert-end
+slice_bounds-convert-end g c =
+    let k = length c.args.numbers.now in
+    let shown : List ℕ = c.shown_bytes-front.result.now in
+    sym (length-take-le (8 * k) shown (omega (arith, c.if-front-numbers.false)))

@@ -1,5 +1,5 @@
-use Rattle.std.proofs.Common.{◌≡◌, ◌+◌, ◌*◌, ℕ, List, length, take, drop, replicate, Some, refl, ap, arith}
-use Rattle.std.proofs.lemmas.List.{length-take-le}
+use Rattle.std.proofs.Common.{◌≡◌, ◌+◌, ◌*◌, ◌++◌, ℕ, List, length, take, drop, replicate, Some, refl, ap, arith}
+use Rattle.std.proofs.lemmas.List.{length-take-le, length-append}
 use Rattle.perf_base.specs.Refusals.{refusal_kind}
 use Rattle.perf_reader.specs.ReaderState.{ReaderState, state_of}
 use Rattle.perf_reader.proofs.AtHand.{never_short, block_keeps, block_there}
@@ -39,3 +39,21 @@ returns-clause-call g c =
           (ap g.E.Endian.order c.endian.ensures) n count t.0 t.1 c.convert.ensures;
       keeps = λ start p. block_keeps start old new _ k n p count e.stays (λ told. (e.ok told).0);
     }
+
+pub overflow_mul-len : goal.overflow_mul-len
+overflow_mul-len g c = omega (arith, c.requires.most)
+
+pub slice_bounds-bytes-end : goal.slice_bounds-bytes-end
+slice_bounds-bytes-end g c = omega (arith, c.requires.most)
+
+pub overflow_sub-numbers : goal.overflow_sub-numbers
+overflow_sub-numbers g c = omega (arith, c.requires.some)
+
+pub convert-requires : goal.convert-requires
+convert-requires g c =
+    let k = length c.args.numbers.now in
+    let zeros : List ℕ = replicate 384 0 in
+    let n : length (take (8 * k) zeros) ≡ 8 * k = length-take-le (8 * k) zeros (omega (arith, c.requires.most)) in
+    let out : length c.fill.new.out ≡ length (take (8 * k) zeros) = c.fill.auto.out in
+    let all : length (c.fill.new.out ++ drop (8 * k) zeros) ≡ length c.fill.new.out + length (drop (8 * k) zeros) = length-append c.fill.new.out (drop (8 * k) zeros) in
+    length-take-le (8 * k) (c.fill.new.out ++ drop (8 * k) zeros) (omega (arith, n, out, all))

@@ -1,10 +1,38 @@
-use Rattle.std.proofs.Common.{◌≡◌, List, [], ◌∷◌, option_map, sym}
+use Rattle.std.proofs.Common.{◌≡◌, List, [], ◌∷◌, option_map, sym, ap}
 use Rattle.perf_base.specs.Order.{Order}
 use Rattle.perf_words.specs.SetBits.{sample_flags_bits}
 use Rattle.perf_sample_types.specs.Sample.{Field, SampleValue, number_is, plain_field, task, cpu, at_flag, fields_under}
 use Rattle.perf_sample_types.specs.SampleParts.{task_value, cpu_value}
+use Rattle.perf_sample_types.specs.declared.sample_groups.Moment.{Moment}
 use Rattle.perf_sample_types.proofs.RowFields.{flag_in_row, row_ends}
 use Rattle.perf_sample_types.proofs.sample_groups.Moment.take_fields.Goals as goal
+
+pub take_flagged-requires : goal.take_flagged-requires
+take_flagged-requires g c = ap (λ (m : Moment). m.identifier) c.requires
+
+pub take_flagged-requires-2 : goal.take_flagged-requires-2
+take_flagged-requires-2 g c = ap (λ (m : Moment). m.ip) c.requires
+
+pub take_flagged-requires-3 : goal.take_flagged-requires-3
+take_flagged-requires-3 g c = ap (λ (m : Moment). m.task) c.requires
+
+pub take_flagged-requires-4 : goal.take_flagged-requires-4
+take_flagged-requires-4 g c = ap (λ (m : Moment). m.time) c.requires
+
+pub take_flagged-requires-5 : goal.take_flagged-requires-5
+take_flagged-requires-5 g c = ap (λ (m : Moment). m.addr) c.requires
+
+pub take_flagged-requires-6 : goal.take_flagged-requires-6
+take_flagged-requires-6 g c = ap (λ (m : Moment). m.id) c.requires
+
+pub take_flagged-requires-7 : goal.take_flagged-requires-7
+take_flagged-requires-7 g c = ap (λ (m : Moment). m.stream_id) c.requires
+
+pub take_flagged-requires-8 : goal.take_flagged-requires-8
+take_flagged-requires-8 g c = ap (λ (m : Moment). m.cpu) c.requires
+
+pub take_flagged-requires-9 : goal.take_flagged-requires-9
+take_flagged-requires-9 g c = ap (λ (m : Moment). m.period) c.requires
 
 pub returns : goal.returns
 returns g c settings is =
