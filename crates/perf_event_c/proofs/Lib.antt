@@ -1,3 +1,4 @@
+pub mod AttributeEnds
 pub mod FileLaws
 pub mod NameLaws
 pub mod NextLaws

@@ -20,7 +20,7 @@ ghost use Rattle.perf_records.specs.Sights.{sight_in, sight_of};
 
 use crate::bodies::put_record;
 use crate::frame::{FlatFrame, put_head};
-use crate::refusals::{empty_frame, refuse_frame};
+use crate::refusals::{blank_frame, refuse_frame};
 use perf_base::sys::{PERF_RECORD_SAMPLE, perf_event_header};
 use perf_base::{Endian, ParseConfig, Refusal};
 use perf_reader::header::header_in;
@@ -131,12 +131,7 @@ pub fn read<E: Endian>(_alloc: Global, config: &ParseConfig<E>, bytes: &[u8]) ->
         × IsFlat (configuration_of config.now) (E.order (endian_of config.now))
         (first_frame (E.order (endian_of config.now)) bytes.now) f) }
 {
-    let nothing = perf_event_header {
-        type_: 0,
-        misc: 0,
-        size: 0,
-    };
-    let mut frame = empty_frame(nothing, 0, 0);
+    let mut frame = blank_frame();
     if read_into(config, bytes, &mut frame) {
         Some(frame)
     } else {

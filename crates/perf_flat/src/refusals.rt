@@ -45,7 +45,7 @@ fn reason_code(refusal: Refusal) -> u16
 // The flat frame of a header alone.
 #[inline]
 #[tactic(auto, unfolding(crate::specs::Arrays::filled, crate::specs::Arrays::filled_spans))]
-pub(crate) fn empty_frame(header: perf_event_header, refusal: u16, reason: u16) -> FlatFrame
+fn empty_frame(header: perf_event_header, refusal: u16, reason: u16) -> FlatFrame
     ensures { result ≡ flat.empty_frame header refusal reason }
 {
     FlatFrame {
