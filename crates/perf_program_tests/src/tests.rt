@@ -2,9 +2,5 @@
 
 mod checks;
 mod counts;
-mod failing;
 mod lines;
 mod printing;
-mod reader_lengths;
-mod runs;
-mod texts;

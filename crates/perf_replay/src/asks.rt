@@ -10,7 +10,7 @@ use perf_test_helpers::everywhere::{Buffer, Question, parser_of, text_everywhere
 use perf_test_helpers::lines::write_last_frame;
 use perf_test_helpers::over_buffer;
 use perf_test_inputs::configurations::write_config;
-use perf_test_lines::Perfrec;
+use perf_test_runs::perfrec::Perfrec;
 use perf_test_runs::{next_record, write_lists};
 use perf_test_texts::texts::{
     write_both_ends, write_found, write_found_spaces, write_group, write_last_record, write_values,

@@ -7,7 +7,7 @@ use perf_event_data::endian::Dynamic;
 use perf_event_data::sys::perf_event_attr;
 use perf_test_helpers::everywhere::add_other;
 use perf_test_helpers::sample_bytes::{Part, frames, put_parts};
-use perf_test_lines::Perfrec;
+use perf_test_runs::perfrec::Perfrec;
 use perf_test_runs::{runs_everywhere, text_of_records};
 use perf_test_texts::reasons::reasons;
 use std::alloc::{AllocError, Global};

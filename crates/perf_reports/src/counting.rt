@@ -15,10 +15,13 @@ ghost use Rattle.perf_reports.specs.Counting.{SumsAnswer, bad_kinds};
 use crate::counts::Counts;
 use crate::record_sums::SumVisitor;
 use crate::sums::sample_sum;
-use perf_event_data::endian::Endian;
-use perf_event_data::parse::{ErrorKind, ParseConfig, ParseError};
-use perf_event_data::sys::{PERF_RECORD_SAMPLE, perf_event_header};
-use perf_event_data::{BadFrame, Frame, FrameHandler, RunEnd, Sample};
+use perf_base::endian::Endian;
+use perf_base::sys::{PERF_RECORD_SAMPLE, perf_event_header};
+use perf_parser::RunEnd;
+use perf_parser::parse::{ErrorKind, ParseConfig, ParseError};
+use perf_records::frame::Frame;
+use perf_records::frame_handler::{BadFrame, FrameHandler};
+use perf_sample_types::sample::Sample;
 use std::alloc::Global;
 
 /// Counts the frames that a run hands to it. If memory runs out for one, it ends the run and does

@@ -5,7 +5,7 @@ ghost use Rattle.perf_base.specs.declared.error.ErrorKind.{ErrorKind};
 ghost use Rattle.perf_records.specs.Records.{RecordValue};
 ghost use Rattle.perf_reports.specs.Counting.{plus, counts_of, modulo_word, record_sum};
 
-use perf_event_data::sys::perf_event_header;
+use perf_base::sys::perf_event_header;
 
 /// Counts of frames, each modulo 2^64.
 #[derive(Copy, Clone, Debug, PartialEq, Eq)]

@@ -14,10 +14,13 @@ ghost use Rattle.perf_reports.specs.FramePrinting.{PrintsAnswer, PrintsSight, fr
 ghost use Rattle.perf_reports.specs.Printing.{is_memory};
 
 use crate::printing::{Found, Lines, Report, Stopped};
-use perf_event_data::endian::Endian;
-use perf_event_data::parse::{ParseConfig, ParseError};
-use perf_event_data::sys::PERF_RECORD_SAMPLE;
-use perf_event_data::{BadFrame, Frame, FrameHandler, RunEnd, Sample};
+use perf_base::endian::Endian;
+use perf_base::sys::PERF_RECORD_SAMPLE;
+use perf_parser::RunEnd;
+use perf_parser::parse::{ParseConfig, ParseError};
+use perf_records::frame::Frame;
+use perf_records::frame_handler::{BadFrame, FrameHandler};
+use perf_sample_types::sample::Sample;
 use std::alloc::Global;
 use std::io::Write;
 

@@ -3,10 +3,13 @@
 ghost use Rattle.perf_reports.specs.Counting.{Adds};
 
 use crate::sums::{comm_sum, lost_sum, mmap_sum, mmap2_sum, sample_sum, task_sum};
-use perf_event_data::{
-    Aux, AuxOutputHwId, BpfEvent, CGroup, Comm, CowSlice, Exit, Fork, ITraceStart, KSymbol, Lost,
-    LostSamples, Mmap, Mmap2, Namespaces, Read, RecordMetadata, Sample, SwitchCpuWide, TextPoke,
-    Throttle, Visitor,
+use perf_base::CowSlice;
+use perf_records::metadata::RecordMetadata;
+use perf_records::visitor::Visitor;
+use perf_sample_types::sample::Sample;
+use perf_types::{
+    Aux, AuxOutputHwId, BpfEvent, CGroup, Comm, Exit, Fork, ITraceStart, KSymbol, Lost,
+    LostSamples, Mmap, Mmap2, Namespaces, Read, SwitchCpuWide, TextPoke, Throttle,
 };
 
 // Turns a record into what it adds to the checksum.

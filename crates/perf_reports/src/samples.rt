@@ -8,7 +8,8 @@ ghost use Rattle.perf_sample_types.specs.SampleGetters.{getters_of};
 ghost use Rattle.perf_text.specs.Strips.{strip_text, room_of};
 ghost use Rattle.perf_reports.specs.SampleLines as printed;
 
-use perf_event_data::{Record, Sample};
+use perf_records::record::Record;
+use perf_sample_types::sample::Sample;
 use perf_text::strip::{MOST_DIGITS, MOST_HEX, ROOM, Strip};
 use std::alloc::{AllocError, Global};
 

@@ -10,9 +10,9 @@ ghost use Rattle.perf_reports.specs.Counting.{CountsRun, CountsStream, attribute
 
 use crate::counting::FrameCounter;
 use crate::counts::Counts;
-use perf_event_data::endian::{Endian, Native};
-use perf_event_data::parse::{ErrorKind, ParseBuf, ParseConfig, ParseResult, Parser};
-use perf_event_data::{RunEnd, each_frame};
+use perf_base::endian::{Endian, Native};
+use perf_parser::parse::{ErrorKind, ParseBuf, ParseConfig, ParseResult, Parser};
+use perf_parser::{RunEnd, each_frame};
 use std::alloc::Global;
 
 /// The limit of a run that counts all frames: more than any input has.

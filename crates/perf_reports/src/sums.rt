@@ -7,7 +7,8 @@ ghost use Rattle.perf_reports.specs.Counting.{lost_sum, sample_sum};
 ghost use Rattle.perf_sample_types.specs.SampleGetters.{getters_of};
 ghost use Rattle.perf_sample_types.specs.SampleGroups.{sample_value};
 
-use perf_event_data::{Comm, Exit, Lost, Mmap, Mmap2, Sample};
+use perf_sample_types::sample::Sample;
+use perf_types::{Comm, Exit, Lost, Mmap, Mmap2};
 
 // The sum of a mapping's numbers and the length of its path.
 #[inline]

@@ -8,9 +8,10 @@ ghost use Rattle.perf_text.specs.Strips.{strip_text, room_of};
 ghost use Rattle.perf_reports.specs.TaskLines as printed;
 
 use crate::names::push_name;
-use perf_event_data::{Comm, Exit, Mmap, Mmap2, NamespaceEntry, Namespaces, Record};
+use perf_records::record::Record;
 use perf_text::hex_bytes::push_hex_bytes;
 use perf_text::strip::Strip;
+use perf_types::{Comm, Exit, Mmap, Mmap2, NamespaceEntry, Namespaces};
 use std::alloc::{AllocError, Global};
 
 // `PROT_READ` of mmap(2)

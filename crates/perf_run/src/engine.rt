@@ -9,12 +9,13 @@ ghost use Rattle.perf_lines.specs.Text.{kind_name};
 ghost use Rattle.perf_run.specs.Text as lines;
 
 use crate::lines::{push_attr_refused, push_end, push_fault, push_lines};
-use perf_event_data::endian::{Endian, Native};
-use perf_event_data::parse::{ErrorKind, ParseBuf, ParseConfig, ParseResult, Parser};
-use perf_event_data::sys::perf_event_header;
-use perf_event_data::{Record, RunEnd, read_records};
+use perf_base::endian::{Endian, Native};
+use perf_base::sys::perf_event_header;
 use perf_lines::outcome::Outcome;
 use perf_lines::output::write_and_flush;
+use perf_parser::parse::{ErrorKind, ParseBuf, ParseConfig, ParseResult, Parser};
+use perf_parser::{RunEnd, read_records};
+use perf_records::record::Record;
 use std::alloc::{AllocError, Global};
 use std::io::{BufReader, Read, Write};
 

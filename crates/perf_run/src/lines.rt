@@ -8,11 +8,11 @@ ghost use Rattle.perf_lines.specs.Text as words;
 ghost use Rattle.perf_parser.specs.Runs.{seen_answer, seen_answers};
 ghost use Rattle.perf_run.specs.Text as lines;
 
-use perf_event_data::Record;
-use perf_event_data::parse::{ErrorKind, ParseResult};
-use perf_event_data::sys::perf_event_header;
+use perf_base::sys::perf_event_header;
 use perf_lines::line::{kind_name, put_header};
 use perf_lines::records::push_record;
+use perf_parser::parse::{ErrorKind, ParseResult};
+use perf_records::record::Record;
 use perf_text::strip::Strip;
 use std::alloc::{AllocError, Global};
 

@@ -1,8 +1,8 @@
 //! Attributes that several tests use.
 
 use bitflags::Flags;
-use perf_event_data::SampleFlags;
-use perf_event_data::sys::perf_event_attr;
+use perf_base::sys::perf_event_attr;
+use perf_words::SampleFlags;
 
 // The user registers that the attributes of samples ask for.
 const USER_MASK: u64 = 0x3;

@@ -1,8 +1,8 @@
 //! Buffers over the same bytes.
 
-use perf_event_data::endian::{Endian, Native};
-use perf_event_data::parse::{ParseBuf, ParseConfig, Parser};
-use perf_event_data::sys::perf_event_attr;
+use perf_base::endian::{Endian, Native};
+use perf_base::sys::perf_event_attr;
+use perf_parser::parse::{ParseBuf, ParseConfig, Parser};
 use std::alloc::{AllocError, Global};
 
 /// A parser over a buffer, under an attribute.

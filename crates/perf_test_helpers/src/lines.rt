@@ -1,11 +1,14 @@
 //! The lines of frames.
 
-use perf_event_data::parse::{ParseError, ParseResult};
-use perf_event_data::sys::perf_event_header;
-use perf_event_data::{ReadGroup, Record, Registers, Sample};
+use perf_base::sys::perf_event_header;
+use perf_counters::ReadGroup;
+use perf_parser::parse::{ParseError, ParseResult};
+use perf_records::record::Record;
+use perf_sample_types::registers::Registers;
+use perf_sample_types::sample::Sample;
 use std::alloc::AllocError;
 
-/// Writes the lines of frames. (`perf_test_lines` implements it by `perf_run`, so that this crate is
+/// Writes the lines of frames. (`perf_test_runs` implements it by `perf_run`, so that this crate is
 /// proved beside that one.)
 pub trait WriteLine {
     /// Appends the line of a frame in `perfrec`, without a line feed.

@@ -1,18 +1,22 @@
 //! Runs over streams as text, for the tests of several crates: by every buffer, and by each call that reads more than one
-//! frame.
+//! frame, with the lines of `perfrec`.
 #![tactic(auto)]
+
+pub mod perfrec;
 
 ghost use Rattle.std.specs.Prelude.{⊤};
 
-use perf_event_data::endian::{Endian, Little, Native};
-use perf_event_data::parse::{
+use perf_base::endian::{Endian, Little, Native};
+use perf_base::sys::{perf_event_attr, perf_event_header};
+use perf_buffers::pieces::PieceBuf;
+use perf_parser::parse::{
     ErrorKind, Parse, ParseBuf, ParseConfig, ParseError, ParseResult, Parser,
 };
-use perf_event_data::sys::{perf_event_attr, perf_event_header};
-use perf_event_data::{
-    BadFrame, Frame as WholeFrame, FrameHandler, FrameRun, PieceBuf, Record, Run, RunEnd,
-    each_frame, frames, read_records,
-};
+use perf_parser::{FrameRun, Run, RunEnd, each_frame, read_records};
+use perf_records::frame::Frame as WholeFrame;
+use perf_records::frame_handler::{BadFrame, FrameHandler};
+use perf_records::frame_list::frames;
+use perf_records::record::Record;
 use perf_test_helpers::everywhere::{Buffer, OTHERS, Question, add_other, add_over, parser_of};
 use perf_test_helpers::lines::{WriteLine, write_error, write_frame, write_last_frame};
 use perf_test_helpers::over_buffer;

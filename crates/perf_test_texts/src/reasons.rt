@@ -2,13 +2,17 @@
 
 ghost use Rattle.std.specs.Prelude.{⊤};
 
-use perf_event_data::endian::{Endian, Little};
-use perf_event_data::parse::{ParseConfig, ParseResult, Parser};
-use perf_event_data::sys::perf_event_attr;
-use perf_event_data::{
-    BadFrame, Frame, FrameHandler, Partial, PartialVisitor, RecordMetadata, Run, Sample,
-    SampleFields, each_frame, frames, read_records,
-};
+use perf_base::endian::{Endian, Little};
+use perf_base::sys::perf_event_attr;
+use perf_parser::parse::{ParseConfig, ParseResult, Parser};
+use perf_parser::{Run, each_frame, read_records};
+use perf_records::frame::Frame;
+use perf_records::frame_handler::{BadFrame, FrameHandler};
+use perf_records::frame_list::frames;
+use perf_records::metadata::RecordMetadata;
+use perf_records::partial::{Partial, PartialVisitor};
+use perf_sample_types::sample::Sample;
+use perf_sample_types::sample_fields::SampleFields;
 use perf_test_helpers::everywhere::{add_other, parser_of};
 use std::alloc::{AllocError, Global};
 

@@ -1,9 +1,12 @@
 //! Values as text.
 
-use perf_event_data::parse::ParseResult;
-use perf_event_data::sys::perf_event_header;
-use perf_event_data::{GroupIter, Namespaces, ReadGroup, ReadValue, Record, Sample};
+use perf_base::sys::perf_event_header;
+use perf_counters::{GroupIter, ReadGroup, ReadValue};
+use perf_parser::parse::ParseResult;
+use perf_records::record::Record;
+use perf_sample_types::sample::Sample;
 use perf_test_helpers::lines::{WriteLine, write_error, write_frame};
+use perf_types::Namespaces;
 use std::alloc::AllocError;
 
 /// The text of a value.

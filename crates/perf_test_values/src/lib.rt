@@ -2,13 +2,15 @@
 //! `perf_test_texts` has.
 #![tactic(auto)]
 
-use perf_event_data::endian::Endian;
-use perf_event_data::parse::{Parse, ParseBuf, ParseRegisters, ParseResult, Parser};
-use perf_event_data::sys::perf_event_attr;
-use perf_event_data::{
-    BranchEntry, Comm, CowSlice, DataSource, Exit, Lost, LostSamples, Mmap, Read, ReadValue,
-    Registers, SampleId, SampleRegsAbi, SwitchCpuWide, Throttle, Txn,
-};
+use perf_base::CowSlice;
+use perf_base::endian::Endian;
+use perf_base::sys::perf_event_attr;
+use perf_counters::ReadValue;
+use perf_parser::parse::{Parse, ParseBuf, ParseRegisters, ParseResult, Parser};
+use perf_sample_types::registers::Registers;
+use perf_sample_types::sample_id::SampleId;
+use perf_types::{Comm, Exit, Lost, LostSamples, Mmap, Read, SwitchCpuWide, Throttle};
+use perf_words::{BranchEntry, DataSource, SampleRegsAbi, Txn};
 use std::alloc::AllocError;
 use std::fmt::Debug;
 

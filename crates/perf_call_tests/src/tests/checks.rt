@@ -2,6 +2,7 @@
 //! written out is proved anew, which takes a second.
 
 use perf_event_data::parse::ParseResult;
+use perf_lines::outcome::Outcome;
 use std::alloc::AllocError;
 use std::fmt::Debug;
 use std::process::Abort;
@@ -30,4 +31,14 @@ pub fn check_answer(rt: &impl Abort, what: &str, answer: ParseResult<String>, wa
 /// Asserts the `{:?}` of a value: all of its fields, and of each list whether it is borrowed.
 pub fn check_debug<T: Debug + Drop>(rt: &(impl AllocGlobal + Abort), value: T, want: &str) {
     check_text(rt, format!(in rt.alloc(); "{value:?}"), want);
+}
+
+/// Asserts what a run writes, and how it ends.
+pub fn check_written(rt: &impl Abort, value: (&[u8], Outcome), want: (&[u8], Outcome)) {
+    check_same(rt, "what is written", value, want);
+}
+
+/// Asserts what is kept of a text, and whether that is all of it.
+pub fn check_kept(rt: &impl Abort, value: (&[u8], bool), want: (&[u8], bool)) {
+    check_same(rt, "what is kept", value, want);
 }

@@ -8,7 +8,7 @@ use perf_event_data::endian::Little;
 use perf_event_data::parse::{
     ErrorKind, ParseBuf, ParseBufChunk, ParseConfig, ParseError, ParseResult, Parser,
 };
-use perf_test_lines::Perfrec;
+use perf_test_runs::perfrec::Perfrec;
 use perf_test_runs::{error_of_record, fault_of_run, text_of_runs};
 use std::alloc::{AllocError, Global};
 use std::io;

@@ -9,7 +9,7 @@ use perf_event_data::SampleFlags;
 use perf_event_data::endian::Little;
 use perf_event_data::parse::{ParseBuf, ParseBufChunk, ParseError, ParseResult};
 use perf_test_helpers::attributes::attribute;
-use perf_test_lines::Perfrec;
+use perf_test_runs::perfrec::Perfrec;
 use perf_test_runs::text_of_runs_under;
 use std::alloc::{AllocError, Global};
 use std::cell::Cell;

@@ -9,7 +9,7 @@ use perf_test_helpers::attributes::attribute;
 use perf_test_helpers::sample_bytes::Part::{self, Bytes, U32, U64};
 use perf_test_helpers::sample_bytes::frames_of;
 use perf_test_inputs::orders::Counting;
-use perf_test_lines::Perfrec;
+use perf_test_runs::perfrec::Perfrec;
 use perf_test_runs::text_of_runs_under;
 use std::alloc::{AllocError, Global};
 use std::cell::Cell;

@@ -3,7 +3,7 @@
 use crate::tests::checks::check_text;
 use perf_event_data::endian::{Big, Dynamic, Endian, Little, Native};
 use perf_event_data::sys::perf_event_attr;
-use perf_test_lines::Perfrec;
+use perf_test_runs::perfrec::Perfrec;
 use perf_test_runs::runs_everywhere;
 use std::alloc::{AllocError, Global};
 use std::process::Abort;

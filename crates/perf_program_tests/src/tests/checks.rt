@@ -1,7 +1,6 @@
 //! The assertions of the tests. Each is in a function of its own, because an assertion that is
 //! written out is proved anew, which takes a second.
 
-use perf_lines::outcome::Outcome;
 use std::alloc::AllocError;
 use std::fmt::Debug;
 use std::process::Abort;
@@ -22,14 +21,4 @@ pub fn check_text(rt: &impl Abort, answer: Result<String, AllocError>, want: &st
 /// Asserts bytes.
 pub fn check_bytes(rt: &impl Abort, what: &str, value: &[u8], want: &[u8]) {
     check_same(rt, what, value, want);
-}
-
-/// Asserts what a run writes, and how it ends.
-pub fn check_written(rt: &impl Abort, value: (&[u8], Outcome), want: (&[u8], Outcome)) {
-    check_same(rt, "what is written", value, want);
-}
-
-/// Asserts what is kept of a text, and whether that is all of it.
-pub fn check_kept(rt: &impl Abort, value: (&[u8], bool), want: (&[u8], bool)) {
-    check_same(rt, "what is kept", value, want);
 }

@@ -2,7 +2,6 @@
 //! and when lines are written.
 
 use crate::tests::checks::{check_bytes, check_same, check_text};
-use crate::tests::runs::{PLAIN_64, PLAIN_100};
 use anyhow::{Result as AnyResult, bail};
 use perf_event_data::endian::Little;
 use perf_event_data::parse::{ParseConfig, ParseResult, Parser};
@@ -10,6 +9,7 @@ use perf_event_data::sys::perf_event_header;
 use perf_event_data::{Record, Run, RunEnd, read_records};
 use perf_reports::printing::{Report, print_recording};
 use perf_reports::{samples, tasks};
+use perf_test_inputs::bytes::{PLAIN_64, PLAIN_100};
 use std::alloc::{AllocError, Global};
 use std::cell::Cell;
 use std::io;

@@ -7,7 +7,7 @@ use perf_base::sys::perf_event_header;
 use perf_base::{ParseConfig, ParseResult};
 use perf_event_data::parse::{Parse, ParseBuf, Parser};
 use perf_test_inputs::orders::{Counting, Words};
-use perf_test_lines::Perfrec;
+use perf_test_runs::perfrec::Perfrec;
 use perf_test_runs::text_of_runs;
 use std::alloc::Global;
 use std::cell::Cell;

@@ -5,7 +5,7 @@ use perf_event_data::sys::{
     PERF_RECORD_EXIT, PERF_RECORD_FORK, PERF_RECORD_LOST, PERF_RECORD_LOST_SAMPLES,
 };
 use perf_event_data::{Lost, LostSamples, Record, Sample, SampleFields};
-use perf_test_lines::Perfrec;
+use perf_test_runs::perfrec::Perfrec;
 use perf_test_runs::write_debug_record;
 use perf_test_texts::texts::write_last_record;
 use std::alloc::{AllocError, Global};

@@ -10,7 +10,7 @@ use perf_event_data::{Partial, RecordVisitor, SampleFlags};
 use perf_test_helpers::attributes::ids_attribute;
 use perf_test_helpers::everywhere::parser_of;
 use perf_test_helpers::frames::{BY_BUILD_ID, zero_frames};
-use perf_test_lines::Perfrec;
+use perf_test_runs::perfrec::Perfrec;
 use perf_test_texts::texts::{write_output, write_visited};
 use std::alloc::{AllocError, Global};
 use std::cell::Cell;

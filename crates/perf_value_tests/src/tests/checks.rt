@@ -6,13 +6,13 @@ use std::alloc::AllocError;
 use std::fmt::Debug;
 use std::process::Abort;
 
-// Asserts that a value is the expected one.
-fn check_same<T: PartialEq + Debug + Drop>(rt: &impl Abort, what: &str, value: T, want: T) {
+/// Asserts that a value is the expected one.
+pub fn check_same<T: PartialEq + Debug + Drop>(rt: &impl Abort, what: &str, value: T, want: T) {
     assert_eq!(rt; value, want, "{what}");
 }
 
-// Asserts that a text is the expected one.
-fn check_text(rt: &impl Abort, answer: Result<String, AllocError>, want: &str) {
+/// Asserts that a text is the expected one.
+pub fn check_text(rt: &impl Abort, answer: Result<String, AllocError>, want: &str) {
     match answer {
         Ok(text) => check_same(rt, "the text", text.as_str(), want),
         Err(_) => panic!(rt; "no memory"),

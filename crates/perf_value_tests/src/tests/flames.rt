@@ -1,5 +1,6 @@
-//! What is read, folded and drawn.
+//! Folded stacks and flame graphs, computed by hand.
 
+use crate::tests::checks::check_same;
 use perf_flame::error::{FlameError, FoldedError};
 use perf_flame::flame::flame;
 use perf_flame::folded::Folded;
@@ -7,7 +8,6 @@ use perf_flame::laws::{apart_law, escaped_law, inside_law, merging_law, sums_law
 use perf_flame::reading::read_lines;
 use perf_flame::stack::Stack;
 use std::alloc::{AllocError, Global};
-use std::fmt::Debug;
 use std::process::Abort;
 use std::test::Fail;
 
@@ -61,11 +61,6 @@ const BAD: [(&[u8], usize); 6] = [
     (b"sh 18446744073709551615\nsh x1", 2),
 ];
 
-// Asserts that a value is the expected one. An assertion that is written out is proved anew.
-fn check_same<T: PartialEq + Debug + Drop>(rt: &impl Abort, value: T, want: T) {
-    assert_eq!(rt; value, want);
-}
-
 // Asserts that bytes are the expected ones, and drops them.
 fn check_bytes(rt: &impl Abort, bytes: Vec<u8>, want: &[u8]) {
     assert_eq!(rt; bytes.as_slice(), want);
@@ -103,7 +98,7 @@ fn drawn(alloc: Global, text: &[u8], inverted: bool) -> Result<Vec<u8>, Fail> {
 // Asserts the text and the total of sums.
 fn check_sums(rt: &impl Abort, sums: &Folded, text: &[u8], total: Option<u64>) -> Result<(), Fail> {
     check_bytes(rt, sums.text()?, text);
-    check_same(rt, sums.total(), total);
+    check_same(rt, "the total", sums.total(), total);
     Ok(())
 }
 
@@ -125,7 +120,7 @@ fn counts_wrap(rt: HostRuntime) -> Result<(), Fail> {
     let is_checked = check_sums(&rt, &sums, want, None);
     let graph = flame(rt.alloc(), &sums, false);
     drop(sums);
-    check_same(&rt, graph.err(), Some(FlameError::TooMany));
+    check_same(&rt, "the error", graph.err(), Some(FlameError::TooMany));
     is_checked
 }
 
@@ -133,7 +128,7 @@ fn counts_wrap(rt: HostRuntime) -> Result<(), Fail> {
 fn bad_lines_are_named(rt: HostRuntime) {
     for (text, line) in BAD {
         let fault = fault_of(rt.alloc(), text);
-        check_same(&rt, fault, Some(FoldedError::BadLine(line)));
+        check_same(&rt, "the error", fault, Some(FoldedError::BadLine(line)));
     }
 }
 
@@ -143,7 +138,7 @@ fn lines_before_a_bad_one_are_added(rt: HostRuntime) -> Result<(), Fail> {
     let fault = read_lines(&mut sums, b"sh 1\nsh\nsh 4\n").err();
     let text = sums.text();
     drop(sums);
-    check_same(&rt, fault, Some(FoldedError::BadLine(2)));
+    check_same(&rt, "the error", fault, Some(FoldedError::BadLine(2)));
     check_bytes(&rt, text?, b"sh 1\n".as_slice());
     Ok(())
 }
@@ -162,7 +157,7 @@ fn stacks_are_cleaned(rt: HostRuntime) -> Result<(), Fail> {
     let mut stack = Stack::new(rt.alloc());
     cleaned(&mut stack)?;
     let want = b"s_h_;operator new(int);;_\xc3\xa9_".as_slice();
-    check_same(&rt, stack.text(), want);
+    check_same(&rt, "the stack", stack.text(), want);
     Ok(())
 }
 
@@ -183,7 +178,7 @@ fn narrow_boxes_are_left_out(rt: HostRuntime) -> Result<(), Fail> {
     let text = drawn(rt.alloc(), b"sh 12000\n\xe9 1\n", false)?;
     let count = text.iter().filter(|byte| **byte == b'\n').count();
     drop(text);
-    check_same(&rt, count, 4);
+    check_same(&rt, "the boxes", count, 4);
     Ok(())
 }
 

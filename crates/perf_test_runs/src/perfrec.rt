@@ -1,9 +1,8 @@
 //! The lines of `perfrec`, as the tests and `perf_replay` write them.
-#![tactic(auto)]
 
-use perf_event_data::Record;
-use perf_event_data::parse::ParseResult;
-use perf_event_data::sys::perf_event_header;
+use perf_base::sys::perf_event_header;
+use perf_parser::parse::ParseResult;
+use perf_records::record::Record;
 use perf_run::line_of;
 use perf_test_helpers::lines::WriteLine;
 use std::alloc::AllocError;

@@ -4,14 +4,13 @@ ghost use Rattle.std.specs.Prelude.{◌<◌};
 
 use crate::tests::checks::{check_kept, check_same, check_written};
 use crate::tests::runs::{
-    ONE_AFTER_64, PLAIN_64, PLAIN_100, REFUSED, REFUSED_TEXT, RunCase, TEXT, TWO_AFTER_72,
-    check_run,
+    ONE_AFTER_64, REFUSED, REFUSED_TEXT, RunCase, TEXT, TWO_AFTER_72, check_run,
 };
 use perf_event_data::endian::Little;
 use perf_lines::outcome::Outcome;
 use perf_lines::output::write_and_flush;
 use perf_run::run;
-use perf_test_inputs::bytes::{FIVE_LOST, TWO};
+use perf_test_inputs::bytes::{FIVE_LOST, PLAIN_64, PLAIN_100, TWO};
 use perf_test_inputs::orders::Counting;
 use perf_test_inputs::readers::Failing;
 use perf_text::output::write_whole;

@@ -1,7 +1,0 @@
-//! The tests.
-
-mod checks;
-mod configurations;
-mod cursors;
-mod errors;
-mod orders;
