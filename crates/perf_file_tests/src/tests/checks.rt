@@ -55,6 +55,11 @@ pub fn check_str(rt: &impl Abort, text: &str, want: &str) {
     assert_eq!(rt; text, want);
 }
 
+/// Asserts bytes.
+pub fn check_bytes(rt: &impl Abort, found: &[u8], want: &[u8]) {
+    assert_eq!(rt; found, want);
+}
+
 /// Asserts what is told of a file.
 pub fn check_told(
     rt: &(impl AllocGlobal + Abort),

@@ -1,13 +1,13 @@
 //! The folded stacks of the recording, computed by hand.
 
+use crate::tests::checks::check_bytes;
 use crate::tests::recording::{WITHOUT_PERIODS, bytes_of, recording};
 use perf_file::Recording;
-use perf_fold::{Choice, FoldError, Weight, fold, status_after, write_fold};
+use perf_fold::{Choice, Weight, fold, status_after, write_fold};
 use perf_folded::Form;
-use perf_lines::outcome::Outcome;
 use perf_stacks::Frames;
 use perf_walk::Filter;
-use std::alloc::Global;
+use std::alloc::{AllocError, Global};
 use std::process::Abort;
 
 const ALL: Filter = Filter {
@@ -30,51 +30,52 @@ const PERIODS: Choice = Choice {
     filter: ALL,
 };
 
-// What is written of the recording, or of its first bytes.
-fn written(alloc: Global, len: usize, how: Choice<'_>) -> (Result<Outcome, FoldError>, Vec<u8>) {
+// What is written of a file, and the status that follows.
+fn written(alloc: Global, file: Result<Vec<u8>, AllocError>, how: Choice<'_>) -> (u8, Vec<u8>) {
     let mut text = Vec::new(alloc);
-    let ended = match recording(alloc) {
-        Ok(bytes) => match bytes.get(..len) {
-            Some(part) => write_fold(alloc, part, how, Form::Lines, &mut text),
-            None => write_fold(alloc, &bytes, how, Form::Lines, &mut text),
-        },
+    let ended = match file {
+        Ok(bytes) => write_fold(alloc, &bytes, how, Form::Lines, &mut text),
         Err(error) => Err(error.into()),
     };
-    (ended, text)
+    (status_after(&ended), text)
+}
+
+// Asserts both.
+fn check_written(
+    rt: &(impl AllocGlobal + Abort),
+    file: Result<Vec<u8>, AllocError>,
+    how: Choice<'_>,
+    status: u8,
+    want: &[u8],
+) {
+    let (found, text) = written(rt.alloc(), file, how);
+    assert_eq!(rt; found, status);
+    check_bytes(rt, &text, want);
 }
 
 #[test]
 fn stacks_of_a_recording(rt: HostRuntime) {
-    let (ended, text) = written(rt.alloc(), usize::MAX, OFFSETS);
-    assert_eq!(rt; status_after(&ended), 0);
     let want = b"ls;[unknown] 1\nls;ls+0x40 1\nsh;ls+0x20;sh+0x210;0xffffffff81000010_[k] 1\n";
-    assert_eq!(rt; text.as_slice(), want.as_slice());
+    check_written(&rt, recording(rt.alloc()), OFFSETS, 0, want);
 }
 
 #[test]
 fn periods_of_files(rt: HostRuntime) {
-    let (_, text) = written(rt.alloc(), usize::MAX, PERIODS);
     let want = b"ls;[unknown] 13\nls;ls 12\nsh;ls;sh;0xffffffff81000010_[k] 11\n";
-    assert_eq!(rt; text.as_slice(), want.as_slice());
+    check_written(&rt, recording(rt.alloc()), PERIODS, 0, want);
 }
 
 #[test]
 fn periods_of_the_event(rt: HostRuntime) {
-    let alloc = rt.alloc();
-    let mut text = Vec::new(alloc);
-    let ended = match bytes_of(alloc, &WITHOUT_PERIODS) {
-        Ok(bytes) => write_fold(alloc, &bytes, PERIODS, Form::Lines, &mut text),
-        Err(error) => Err(error.into()),
-    };
-    assert_eq!(rt; status_after(&ended), 0);
-    assert_eq!(rt; text.as_slice(), b":8;[unknown] 8000\n".as_slice());
+    let file = bytes_of(rt.alloc(), &WITHOUT_PERIODS);
+    check_written(&rt, file, PERIODS, 0, b":8;[unknown] 8000\n");
 }
 
-// What the recording is folded to with a filter: thread 8 is `sh` at time 30, `ls` at time 50, and then
-// thread 9 is its child.
-fn chosen(alloc: Global, filter: Filter<'_>) -> Vec<u8> {
+// Asserts what the recording is folded to with a filter: thread 8 is `sh` at time 30, `ls` at time 50,
+// and then thread 9 is its child.
+fn check_chosen(rt: &(impl AllocGlobal + Abort), filter: Filter<'_>, want: &[u8]) {
     let how = Choice { filter, ..OFFSETS };
-    written(alloc, usize::MAX, how).1
+    check_written(rt, recording(rt.alloc()), how, 0, want);
 }
 
 const SH: &[u8] = b"sh;ls+0x20;sh+0x210;0xffffffff81000010_[k] 1\n";
@@ -88,14 +89,14 @@ fn samples_by_name_and_time(rt: HostRuntime) {
         comms: &names,
         ..ALL
     };
-    assert_eq!(rt; chosen(rt.alloc(), named).as_slice(), LS);
+    check_chosen(&rt, named, LS);
     let until = Filter {
         last: Some(30),
         ..ALL
     };
-    assert_eq!(rt; chosen(rt.alloc(), until).as_slice(), SH);
+    check_chosen(&rt, until, SH);
     let from = Filter { first: 50, ..ALL };
-    assert_eq!(rt; chosen(rt.alloc(), from).as_slice(), LS);
+    check_chosen(&rt, from, LS);
 }
 
 #[test]
@@ -104,13 +105,12 @@ fn samples_by_process(rt: HostRuntime) {
         pids: &[7, 9],
         ..Filter::default()
     };
-    let want = b"ls;[unknown] 1\n";
-    assert_eq!(rt; chosen(rt.alloc(), process).as_slice(), want.as_slice());
+    check_chosen(&rt, process, b"ls;[unknown] 1\n");
     let both = Filter {
         first: 71,
         ..process
     };
-    assert!(rt; chosen(rt.alloc(), both).is_empty());
+    check_chosen(&rt, both, b"");
 }
 
 #[test]
@@ -120,16 +120,16 @@ fn no_such_event(rt: HostRuntime) {
         ..ALL
     };
     let how = Choice { filter, ..OFFSETS };
-    let (ended, text) = written(rt.alloc(), usize::MAX, how);
-    assert_eq!(rt; status_after(&ended), 2);
-    assert!(rt; text.is_empty());
+    check_written(&rt, recording(rt.alloc()), how, 2, b"");
 }
 
 #[test]
 fn no_file(rt: HostRuntime) {
-    let (ended, text) = written(rt.alloc(), 7, OFFSETS);
-    assert_eq!(rt; status_after(&ended), 2);
-    assert!(rt; text.is_empty());
+    let mut file = recording(rt.alloc());
+    if let Ok(bytes) = &mut file {
+        bytes.truncate(7);
+    }
+    check_written(&rt, file, OFFSETS, 2, b"");
 }
 
 #[test]

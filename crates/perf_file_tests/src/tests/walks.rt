@@ -1,5 +1,6 @@
 //! What a walk finds, computed by hand.
 
+use crate::tests::checks::check_bytes;
 use crate::tests::recording::recording;
 use perf_file::{OpenError, Recording};
 use perf_history::{File, Name, Place};
@@ -118,7 +119,7 @@ const LINES: &[u8] = b"0 3 5 40 true sh
 #[test]
 fn frames_in_order(rt: HostRuntime) {
     match text_of(rt.alloc()) {
-        Ok(text) => assert_eq!(rt; text.as_slice(), LINES),
+        Ok(text) => check_bytes(&rt, &text, LINES),
         Err(error) => panic!(rt; "{error}"),
     }
 }
@@ -127,6 +128,6 @@ fn frames_in_order(rt: HostRuntime) {
 fn spans_inside_a_frame(rt: HostRuntime) {
     use perf_flat::frame::Span;
     let bytes = b"abcdef";
-    assert_eq!(rt; bytes_at(bytes, Span { at: 2, len: 3 }), b"cde".as_slice());
-    assert_eq!(rt; bytes_at(bytes, Span { at: 2, len: 5 }), b"".as_slice());
+    check_bytes(&rt, bytes_at(bytes, Span { at: 2, len: 3 }), b"cde");
+    check_bytes(&rt, bytes_at(bytes, Span { at: 2, len: 5 }), b"");
 }

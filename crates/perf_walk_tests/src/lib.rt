@@ -1,6 +1,0 @@
-//! A walk through a recording that was made by hand, its folded stacks, and call chains. Without its
-//! tests this crate is empty.
-#![tactic(auto)]
-
-#[cfg(test)]
-mod tests;

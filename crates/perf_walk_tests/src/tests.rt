@@ -1,6 +1,0 @@
-//! The tests.
-
-mod chains;
-mod folds;
-mod recording;
-mod walks;
