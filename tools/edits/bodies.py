@@ -7,7 +7,7 @@ Run it at the top of the repository, over the libraries that `rt ci` proved, or 
 begins with a crate as soon as the log of `rt ci` names it as proved, with fewer checks at a time until that has ended.
 The README beside this file says how bodies are tried. A line says for each file of edits whether all its bodies were
 refused, and another for each body that was not. The last line is how many bodies were; the status is 1 if one was not.
-The bodies of a crate that `refused.txt` records over the same texts are not tried, but for a twentieth of all (record.py);
+The bodies of a crate that `refused.txt` records over the same texts are not tried, but for a hundredth of all (record.py);
 with --anew all are tried. With --record the crates all of whose bodies were refused are written there.
 A body that was refused is also kept, for this user and on this machine, by the sum of all that its check read: the texts
 of its crate and of the libraries below, the kit, and these tools. So a later run tries only bodies that are new, or whose

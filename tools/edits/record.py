@@ -2,7 +2,7 @@
 
 A line has the crate, how many bodies it has, and the sum of all that they were tried over: its texts and edits, the
 texts of the libraries below it, and what the kit is. While that sum is the same, no body can be proved that was not, so
-only the bodies of some crates are tried again: a twentieth of all, chosen by the record itself, others with each record."""
+only those of a few small crates are tried again: at most a hundredth of all, chosen by the record itself, others with each record."""
 
 import contextlib
 import hashlib
@@ -33,10 +33,10 @@ class Record:
         self.some = self.chosen()
 
     def chosen(self):
-        """The crates whose bodies are tried although they are recorded, up to a twentieth of all bodies."""
+        """The crates whose bodies are tried although they are recorded, up to a hundredth of all bodies."""
         whole = hashlib.sha256(repr(sorted(self.lines.items())).encode()).hexdigest()
         order = sorted(self.lines, key=lambda it: hashlib.sha256(f"{whole} {it}".encode()).hexdigest())
-        left, some = sum(count for count, _ in self.lines.values()) // 20, set()
+        left, some = sum(count for count, _ in self.lines.values()) // 100, set()
         for name in order:
             if self.lines[name][0] <= left:
                 left -= self.lines[name][0]
