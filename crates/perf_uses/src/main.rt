@@ -20,7 +20,7 @@ mod with_attribute;
 use crate::by_hand::{mapping_after, next_header};
 use crate::call_stacks::call_stacks;
 use crate::own_bytes::Received;
-use crate::own_mark::{Mark, mark_after, mark_in};
+use crate::own_mark::{MARK, Mark, mark_after, mark_in};
 use crate::own_order::HighWordFirst;
 use crate::own_ring::Ring;
 use crate::own_span::Span;
@@ -31,13 +31,13 @@ use crate::with_attribute::open_recording;
 use anyhow::{Result, bail};
 use perf_event_data::endian::{Endian, Little};
 use perf_event_data::parse::{ParseBuf, ParseConfig, ParseResult, Parser};
-use perf_event_data::sys::perf_event_header;
+use perf_event_data::sys::{PERF_RECORD_COMM, PERF_RECORD_MMAP2, perf_event_header};
 use perf_event_data::{
     Exit, Frame, Mmap2, Record, RecordMetadata, RecordVisitor, frames, read_records,
 };
 use std::alloc::Global;
 use std::collections::BTreeMap;
-use std::io::Read;
+use std::io::{self, Read};
 
 // Prints the times of samples.
 fn print_times(rt: &HostRuntime, config: &ParseConfig<Little>, records: &[u8]) -> Result<()> {
@@ -74,11 +74,11 @@ fn print_each_stack(rt: &HostRuntime, stacks: &BTreeMap<String, u64>) -> Result<
 // Prints the file of a mapping.
 fn print_mapping(rt: &HostRuntime, mapping: &Mmap2<'_>) -> Result<()> {
     let file = mapping.filename_os().unwrap_or("?");
-    match mapping.build_id() {
-        Some(id) => println!(rt; "{} maps {file} of build id {id:?}", mapping.pid)?,
-        None => println!(rt; "{} maps {file}", mapping.pid)?,
-    }
-    Ok(())
+    let printed = match mapping.build_id() {
+        Some(id) => println!(rt; "{} maps {file} of build id {id:?}", mapping.pid),
+        None => println!(rt; "{} maps {file}", mapping.pid),
+    };
+    Ok(printed?)
 }
 
 // Prints the record after a header, if it is a mapping.
@@ -93,17 +93,6 @@ fn print_mapping_after(
     let printed = print_mapping(rt, &mapping);
     drop(mapping);
     printed
-}
-
-// Prints the mappings that are left in a buffer.
-fn print_mappings(rt: &HostRuntime, parser: &mut Parser<&[u8], Little>) -> Result<()> {
-    for _ in 0..u64::MAX {
-        let Some(header) = next_header(parser)? else {
-            break;
-        };
-        print_mapping_after(rt, parser, header)?;
-    }
-    Ok(())
 }
 
 // Prints when a task got its name, if a record with this metadata is a COMM.
@@ -136,13 +125,27 @@ fn print_name_after(
     printed
 }
 
-// Prints when tasks got their names, by a visitor.
-fn print_names(rt: &HostRuntime, parser: &mut Parser<&[u8], Little>) -> Result<()> {
+// Prints the record after a header, if it is a mapping, a task's name or a mark, which this type is.
+fn print_after(
+    rt: &HostRuntime,
+    parser: &mut Parser<&[u8], Little>,
+    header: perf_event_header,
+    ty: u32,
+) -> Result<()> {
+    match ty {
+        PERF_RECORD_MMAP2 => print_mapping_after(rt, parser, header),
+        PERF_RECORD_COMM => print_name_after(rt, parser, header),
+        _ => print_mark_after(rt, parser, header),
+    }
+}
+
+// Prints the records of a type that are left in a buffer.
+fn print_all(rt: &HostRuntime, parser: &mut Parser<&[u8], Little>, ty: u32) -> Result<()> {
     for _ in 0..u64::MAX {
         let Some(header) = next_header(parser)? else {
             break;
         };
-        print_name_after(rt, parser, header)?;
+        print_after(rt, parser, header, ty)?;
     }
     Ok(())
 }
@@ -200,7 +203,7 @@ const BODY: &[u8] = b"\x09\0\0\0\x01\0\0\0\0\0\0\0end\0";
 
 // Prints a mark.
 fn print_mark(rt: &HostRuntime, mark: &Mark<'_>) -> Result<()> {
-    let name = String::from_utf8_lossy(rt.alloc(), mark.name.as_slice())?;
+    let name = str::from_utf8(mark.name.as_slice()).unwrap_or("?");
     println!(rt; "mark {} of {}: {name}", mark.id, mark.value)?;
     Ok(())
 }
@@ -219,29 +222,17 @@ fn print_mark_after(
     printed
 }
 
-// Prints the marks among some frames.
-fn print_marks(rt: &HostRuntime, parser: &mut Parser<&[u8], Little>) -> Result<()> {
-    for _ in 0..u64::MAX {
-        let Some(header) = next_header(parser)? else {
-            break;
-        };
-        print_mark_after(rt, parser, header)?;
-    }
-    Ok(())
-}
-
 // A span of version 2, and one of version 3, which is refused.
 const SPANS: &[u8] = b"\x02\0\x64\0\0\0\0\0\0\0\x07\0\0\0\0\0\0\0\x04\0load\x03\0";
 
 // Prints a span.
-fn print_span(rt: &HostRuntime, span: &Span<'_>) -> Result<()> {
-    let label = String::from_utf8_lossy(rt.alloc(), span.label.as_slice())?;
-    println!(rt; "{label} from {} for {}", span.start, span.duration)?;
-    Ok(())
+fn print_span(rt: &HostRuntime, span: &Span<'_>) -> io::Result<()> {
+    let label = str::from_utf8(span.label.as_slice()).unwrap_or("?");
+    println!(rt; "{label} from {} for {}", span.start, span.duration)
 }
 
 // Prints the next span, or why it is refused.
-fn print_next_span(rt: &HostRuntime, parser: &mut Parser<&[u8], Little>) -> Result<()> {
+fn print_next_span(rt: &HostRuntime, parser: &mut Parser<&[u8], Little>) -> io::Result<()> {
     let answer = parser.parse::<Span>();
     let printed = print_answer(rt, &answer);
     drop(answer);
@@ -249,10 +240,10 @@ fn print_next_span(rt: &HostRuntime, parser: &mut Parser<&[u8], Little>) -> Resu
 }
 
 // Prints a span, or why it is refused.
-fn print_answer(rt: &HostRuntime, answer: &ParseResult<Span<'_>>) -> Result<()> {
+fn print_answer(rt: &HostRuntime, answer: &ParseResult<Span<'_>>) -> io::Result<()> {
     match answer {
         Ok(span) => print_span(rt, span),
-        Err(error) => Ok(println!(rt; "{error}")?),
+        Err(error) => println!(rt; "{error}"),
     }
 }
 
@@ -269,27 +260,24 @@ fn print_lost(
     Ok(())
 }
 
-// Prints how many samples were lost.
-fn print_losses<'p, B: ParseBuf<'p>, E: Endian>(
+// Prints how many samples were lost, by the records in a buffer.
+fn print_losses<'p, B: ParseBuf<'p> + Drop, E: Endian>(
     rt: &HostRuntime,
-    parser: &mut Parser<B, E>,
+    buffer: B,
+    order: E,
 ) -> Result<()> {
-    let run = read_records(parser, 10);
+    let config = ParseConfig::<Little>::default().with_endian(order);
+    let mut parser = Parser::new(rt.alloc(), buffer, config);
+    let run = read_records(&mut parser, 10);
     let printed = print_lost(rt, &run.frames);
     drop(run);
     printed
 }
 
-// Prints the mappings of a recording.
-fn print_mappings_of(rt: &HostRuntime, recording: &[u8]) -> Result<()> {
+// Prints the records of a type in a recording.
+fn print_all_of(rt: &HostRuntime, recording: &[u8], ty: u32) -> Result<()> {
     let mut parser = open_recording(rt.alloc(), recording)?;
-    print_mappings(rt, &mut parser)
-}
-
-// Prints when the tasks of a recording got their names.
-fn print_names_of(rt: &HostRuntime, recording: &[u8]) -> Result<()> {
-    let mut parser = open_recording(rt.alloc(), recording)?;
-    print_names(rt, &mut parser)
+    print_all(rt, &mut parser, ty)
 }
 
 // Prints what a recording contains, of which these are the configuration and the records.
@@ -302,8 +290,8 @@ fn print_contents(
     print_times(rt, config, records)?;
     print_counts(rt, recording)?;
     print_stacks(rt, config, records)?;
-    print_mappings_of(rt, recording)?;
-    print_names_of(rt, recording)?;
+    print_all_of(rt, recording, PERF_RECORD_MMAP2)?;
+    print_all_of(rt, recording, PERF_RECORD_COMM)?;
     print_ends(rt, config, records)
 }
 
@@ -321,16 +309,10 @@ fn parser_of<'p>(alloc: Global, bytes: &'p [u8]) -> Parser<&'p [u8], Little> {
     Parser::new(alloc, bytes, ParseConfig::default())
 }
 
-// Prints the mapping above.
-fn print_given_mapping(rt: &HostRuntime) -> Result<()> {
-    let mut parser = parser_of(rt.alloc(), MAPPING);
-    print_mappings(rt, &mut parser)
-}
-
-// Prints the marks among the frames above.
-fn print_given_marks(rt: &HostRuntime) -> Result<()> {
-    let mut parser = parser_of(rt.alloc(), MARKS);
-    print_marks(rt, &mut parser)
+// Prints the records of a type among these frames.
+fn print_all_in(rt: &HostRuntime, frames: &[u8], ty: u32) -> Result<()> {
+    let mut parser = parser_of(rt.alloc(), frames);
+    print_all(rt, &mut parser, ty)
 }
 
 // Prints the mark whose body is above.
@@ -342,42 +324,32 @@ fn print_given_body(rt: &HostRuntime) -> Result<()> {
 }
 
 // Prints the spans above.
-fn print_given_spans(rt: &HostRuntime) -> Result<()> {
+fn print_given_spans(rt: &HostRuntime) -> io::Result<()> {
     let mut parser = parser_of(rt.alloc(), SPANS);
     print_next_span(rt, &mut parser)?;
     print_next_span(rt, &mut parser)
 }
 
-// Prints the loss whose number has its higher half first.
-fn print_swapped_loss(rt: &HostRuntime) -> Result<()> {
-    let by_halves = ParseConfig::<Little>::default().with_endian(HighWordFirst);
-    let mut parser = Parser::new(rt.alloc(), SWAPPED, by_halves);
-    print_losses(rt, &mut parser)
-}
-
-// Prints the losses in the ring above.
-fn print_ring_losses(rt: &HostRuntime) -> Result<()> {
-    let ring = Ring::new(&RING[12..], &RING[..12]);
-    let mut parser = Parser::new(rt.alloc(), ring, ParseConfig::<Little>::default());
-    print_losses(rt, &mut parser)
-}
-
-// Prints the first of these losses, from a buffer that owns its bytes.
+// Prints the first loss in the ring above, from a buffer that owns its bytes.
 fn print_received_loss(rt: &HostRuntime) -> Result<()> {
-    let buffer = Received::new(Vec::from_slice(rt.alloc(), &RING[12..28])?);
-    let mut parser = Parser::new(rt.alloc(), buffer, ParseConfig::<Little>::default());
-    print_losses(rt, &mut parser)
+    let bytes = Vec::from_slice(rt.alloc(), &RING[12..28])?;
+    print_losses(rt, Received::new(bytes), Little)
+}
+
+// Prints the loss whose number has its higher half first, and those in the ring.
+fn print_all_losses(rt: &HostRuntime) -> Result<()> {
+    print_losses(rt, SWAPPED, HighWordFirst)?;
+    print_losses(rt, Ring::new(&RING[12..], &RING[..12]), Little)?;
+    print_received_loss(rt)
 }
 
 // Prints what the uses make of the bytes above.
 fn print_given(rt: &HostRuntime) -> Result<()> {
-    print_given_mapping(rt)?;
-    print_given_marks(rt)?;
+    print_all_in(rt, MAPPING, PERF_RECORD_MMAP2)?;
+    print_all_in(rt, MARKS, MARK)?;
     print_given_body(rt)?;
     print_given_spans(rt)?;
-    print_swapped_loss(rt)?;
-    print_ring_losses(rt)?;
-    print_received_loss(rt)
+    print_all_losses(rt)
 }
 
 fn main(rt: HostRuntime) -> Result<()> {

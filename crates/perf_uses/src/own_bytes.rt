@@ -5,7 +5,7 @@ ghost use Rattle.std.specs.Prelude.{◌≡◌, ◌-◌, length, drop, None, Some
 use perf_event_data::parse::{ParseBuf, ParseBufChunk, ParseError, ParseResult};
 
 /// Bytes that were received, of which the first `position` have been read.
-#[derive(Debug, Drop)]
+#[derive(Drop)]
 pub struct Received {
     bytes: Vec<u8>,
     position: usize,

@@ -16,7 +16,7 @@ use std::alloc::Global;
 pub const MARK: u32 = 100;
 
 /// A number, its value, and its name.
-#[derive(Debug, Drop)]
+#[derive(Drop)]
 pub struct Mark<'a> {
     /// Which number it is.
     pub id: u32,

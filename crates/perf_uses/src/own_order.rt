@@ -7,7 +7,7 @@ use perf_event_data::endian::Endian;
 use perf_event_data::parse::ParseResult;
 
 /// Little endian, except that the higher four of eight bytes come first.
-#[derive(Copy, Clone, Debug)]
+#[derive(Copy, Clone)]
 pub struct HighWordFirst;
 
 impl Endian for HighWordFirst {

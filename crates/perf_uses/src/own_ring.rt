@@ -5,7 +5,7 @@ ghost use Rattle.std.specs.Prelude.{◌≡◌, ◌++◌, ◌+◌, ◌<◌, ◌^�
 use perf_event_data::parse::{ParseBuf, ParseBufChunk, ParseError, ParseResult};
 
 /// The bytes of a ring that have not been read: those up to its end, and those from its beginning.
-#[derive(Debug, Drop)]
+#[derive(Drop)]
 pub struct Ring<'p> {
     first: &'p [u8],
     second: &'p [u8],

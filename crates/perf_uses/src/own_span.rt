@@ -8,7 +8,7 @@ use perf_event_data::endian::Endian;
 use perf_event_data::parse::{ErrorKind, Layout, Parse, ParseBuf, ParseError, ParseResult, Parser};
 
 /// A part of a program's run.
-#[derive(Debug, Drop)]
+#[derive(Drop)]
 pub struct Span<'a> {
     /// When it began.
     pub start: u64,

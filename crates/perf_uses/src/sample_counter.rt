@@ -13,7 +13,7 @@ use std::alloc::Global;
 use std::io::{BufReader, Read};
 
 /// Counts the samples of a run.
-#[derive(Copy, Clone, Debug, Default)]
+#[derive(Copy, Clone, Default)]
 pub struct SampleCounter {
     /// How many samples it was handed, modulo 2^64.
     pub count: u64,

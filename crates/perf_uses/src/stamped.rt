@@ -16,7 +16,7 @@ fn copy_of(metadata: &RecordMetadata) -> RecordMetadata
 }
 
 /// Returns the metadata of a record, with what another visitor makes of the record.
-#[derive(Copy, Clone, Debug)]
+#[derive(Drop)]
 pub struct Stamped<V>(pub V);
 
 impl<'a, V: Visitor<'a>> Visitor<'a> for Stamped<V> {
