@@ -1,5 +1,1 @@
 pub mod AttributeEnds
-pub mod FileLaws
-pub mod NameLaws
-pub mod NextLaws
-pub mod ReadLaws

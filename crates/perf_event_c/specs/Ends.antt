@@ -13,7 +13,7 @@ use Rattle.perf_flat.specs.Split.{split_frame, split_how, split_at, span_bytes, 
 use Rattle.perf_flat.specs.declared.frame.FlatFrame.{FlatFrame}
 use Rattle.perf_flat.specs.declared.read.Ended.{Ended}
 use Rattle.perf_flat.specs.declared.read.SplitEnd.{SplitEnd}
-use Rattle.perf_event_c.specs.CallerConfigs.{configuration_by, order_of_config}
+use Rattle.perf_outlines.specs.CallerConfigs.{configuration_by, order_of_config}
 use Rattle.perf_flat.specs.declared.config.FlatConfig.{FlatConfig}
 
 -- The frame at the front of bytes is read: it states what its answer is.

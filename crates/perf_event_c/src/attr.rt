@@ -4,13 +4,13 @@ ghost use Rattle.std.specs.Prelude.{◌≡◌, ◌≤◌, true, false, length};
 ghost use Rattle.perf_base.specs.Attribute.{attribute};
 ghost use Rattle.perf_base.specs.Layout.{layout};
 ghost use Rattle.perf_flat.specs.FlatConfigs as plain;
-ghost use Rattle.perf_event_c.specs.CallerConfigs as configs;
+ghost use Rattle.perf_outlines.specs.CallerConfigs as configs;
 ghost use Rattle.perf_event_c.specs.Ends.{ReadsAttribute};
 
-use crate::order::order_by;
 use perf_flat::attr::read_attr;
 use perf_flat::config::FlatConfig;
 use perf_flat::refusals::kind_code;
+use perf_outlines::order::order_by;
 use std::alloc::Global;
 
 /// In place of the kind of a refusal: `order` is no byte order.

@@ -3,7 +3,7 @@
 ghost use Rattle.std.specs.Prelude.{◌≡◌, ◌<◌, ◌≤◌, true, false, length};
 ghost use Rattle.perf_flat.specs.FlatBodies.{IsFlatBody, header_before};
 ghost use Rattle.perf_flat.specs.FlatConfigs.{is_valid};
-ghost use Rattle.perf_event_c.specs.CallerConfigs as configs;
+ghost use Rattle.perf_outlines.specs.CallerConfigs as configs;
 
 use crate::ends::{LIMIT, LONG_BODY, NOT_READ};
 use perf_flat::config::FlatConfig;

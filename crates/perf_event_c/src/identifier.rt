@@ -4,11 +4,11 @@ ghost use Rattle.std.specs.Prelude.{◌≡◌, ◌<◌, true, false};
 ghost use Rattle.perf_base.specs.Header.{header_of};
 ghost use Rattle.perf_records.specs.FrameNumbers.{IsIdentifierRead};
 ghost use Rattle.perf_flat.specs.Identifiers as place;
-ghost use Rattle.perf_event_c.specs.CallerConfigs as configs;
+ghost use Rattle.perf_outlines.specs.CallerConfigs as configs;
 ghost use Rattle.perf_event_c.specs.Ends as ends;
 
-use crate::order::order_by;
 use perf_flat::read::identifier;
+use perf_outlines::order::order_by;
 
 /// Writes the kernel's own number of the event that wrote the frame at the front of bytes to `id`,
 /// and returns 1. It is for use before the configuration of the frame is known, if all events have

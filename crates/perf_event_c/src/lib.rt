@@ -6,7 +6,6 @@
 
 pub mod attr;
 pub mod body;
-pub mod ends;
 pub mod event_name;
 pub mod file;
 pub mod file_entries;
@@ -16,6 +15,7 @@ pub mod file_names;
 pub mod file_read;
 pub mod identifier;
 pub mod many;
-mod order;
 pub mod read;
 pub mod split;
+
+pub use perf_outlines::ends;

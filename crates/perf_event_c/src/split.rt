@@ -2,7 +2,7 @@
 
 ghost use Rattle.std.specs.Prelude.{◌≡◌, true, false};
 ghost use Rattle.perf_flat.specs.FlatConfigs.{is_valid};
-ghost use Rattle.perf_event_c.specs.CallerConfigs as configs;
+ghost use Rattle.perf_outlines.specs.CallerConfigs as configs;
 ghost use Rattle.perf_event_c.specs.Ends.{ReadsSplit};
 
 use crate::ends::NOT_READ;

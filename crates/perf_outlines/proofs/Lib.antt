@@ -5,3 +5,7 @@ pub mod Sizes
 pub mod PipeCounts
 pub mod PipeInMemory
 pub mod NotePlacing
+pub mod FileLaws
+pub mod NextLaws
+pub mod NameLaws
+pub mod ReadLaws

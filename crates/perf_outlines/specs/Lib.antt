@@ -2,3 +2,9 @@ pub mod Filled
 pub mod Outlines
 pub mod PipeOutlines
 pub mod NotePlaces
+pub mod CallerConfigs
+pub mod Files
+pub mod FileEvents
+pub mod FlatNames
+pub mod Entries
+pub mod EntryReads

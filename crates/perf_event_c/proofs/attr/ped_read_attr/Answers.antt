@@ -1,6 +1,6 @@
 use Rattle.std.proofs.Common.{rules}
 use Rattle.perf_flat.specs.FlatConfigs as plain
-use Rattle.perf_event_c.specs.CallerConfigs as configs
+use Rattle.perf_outlines.specs.CallerConfigs as configs
 use Rattle.perf_event_c.proofs.AttributeEnds.{attribute_read, attribute_refused, not_both}
 use Rattle.perf_event_c.proofs.attr.ped_read_attr.Goals as goal
 

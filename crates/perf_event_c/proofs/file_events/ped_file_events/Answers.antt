@@ -1,6 +1,6 @@
 use Rattle.std.proofs.Common.{sym, subst, ◌∙◌}
 use Rattle.perf_outlines.proofs.PipeInMemory.{form_some, form_none}
-use Rattle.perf_event_c.specs.FileEvents.{ReadsEvents}
+use Rattle.perf_outlines.specs.FileEvents.{ReadsEvents}
 use Rattle.perf_event_c.proofs.file_events.ped_file_events.Goals as goal
 
 pub returns-in-Some-clause-opened : goal.returns-in-Some-clause-opened

@@ -1,7 +1,7 @@
 use Rattle.std.proofs.Common.{ap, sym, ◌∙◌}
 use Rattle.perf_sections.specs.Opened.{File}
 use Rattle.perf_outlines.proofs.PipeInMemory.{form_some, form_none, pipe_is}
-use Rattle.perf_event_c.proofs.NameLaws.{noted_is, file_named}
+use Rattle.perf_outlines.proofs.NameLaws.{noted_is, file_named}
 use Rattle.perf_event_c.proofs.file_names.ped_file_names.Goals as goal
 
 pub returns-in-Some-clause-file : goal.returns-in-Some-clause-file

@@ -1,5 +1,5 @@
 use Rattle.std.proofs.Common.{◌<◌, length, arith}
-use Rattle.perf_event_c.proofs.ReadLaws.{entries_more, rest_more}
+use Rattle.perf_outlines.proofs.ReadLaws.{entries_more, rest_more}
 use Rattle.perf_event_c.proofs.file_read.ped_file_read.Goals as goal
 
 pub loop-index-preserved : goal.loop-index-preserved

@@ -3,8 +3,8 @@ use Rattle.perf_file.specs.Forms.{opened}
 use Rattle.perf_sections.specs.Opened.{File}
 use Rattle.perf_outlines.specs.PipeOutlines.{form_outline}
 use Rattle.perf_outlines.specs.declared.summary.Outline.{Outline}
-use Rattle.perf_event_c.specs.EntryReads.{States, ReadsEntries}
-use Rattle.perf_event_c.specs.Files.{flat_file}
+use Rattle.perf_outlines.specs.EntryReads.{States, ReadsEntries}
+use Rattle.perf_outlines.specs.Files.{flat_file}
 use Rattle.perf_event_c.proofs.file_read.ped_file_read.Given as goal
 
 abbrev pub invariant-loop-index : goal.invariant-loop-index

@@ -3,7 +3,7 @@ use Rattle.perf_base.specs.Configuration.{Configuration}
 use Rattle.perf_base.specs.Configured.{configuration_of}
 use Rattle.perf_base.specs.Dynamic.{order_of}
 use Rattle.perf_base.specs.Order.{Order}
-use Rattle.perf_event_c.specs.CallerConfigs.{order_of_config}
+use Rattle.perf_outlines.specs.CallerConfigs.{order_of_config}
 use Rattle.perf_event_c.specs.Ends.{ReadsSplit}
 use Rattle.perf_event_c.proofs.split.ped_read_split.Goals as goal
 
