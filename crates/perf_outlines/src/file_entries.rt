@@ -116,8 +116,8 @@ fn time_of(all: &[FlatEvent], owner: Owner, frame: &Result<Frame<'_, '_>, BadFra
     }
 }
 
-// The frames of a file, if they are in it.
-pub(crate) fn frames_of<'p>(file: &FlatFile, bytes: &'p [u8]) -> Option<&'p [u8]>
+/// The frames of a file, if they are in it.
+pub fn frames_of<'p>(file: &FlatFile, bytes: &'p [u8]) -> Option<&'p [u8]>
     ensures { option_map (λ b. b.now) result ≡ entries.frames_of file.now bytes.now }
 {
     let left = (bytes.len() as u64).checked_sub(file.frames.start)?;
@@ -128,8 +128,8 @@ pub(crate) fn frames_of<'p>(file: &FlatFile, bytes: &'p [u8]) -> Option<&'p [u8]
     Some(bytes.split_at(start).1.split_at(size).0)
 }
 
-// What is left of frames from an offset of the file on, where they begin at `start`.
-pub(crate) fn left_from(frames: &[u8], start: u64, at: u64) -> &[u8]
+/// What is left of frames from an offset of the file on, where they begin at `start`.
+pub fn left_from(frames: &[u8], start: u64, at: u64) -> &[u8]
     ensures { result.now ≡ drop (at - start) frames.now }
 {
     let offset = at.saturating_sub(start);

@@ -2,7 +2,7 @@ use Rattle.std.proofs.Common.{◌≡◌, ◌-◌, ℕ, List, drop, ap, ◌∙◌
 use Rattle.perf_outlines.specs.Entries.{left_from}
 use Rattle.perf_outlines.proofs.NextLaws.{is_placed, no_frames, same_frames, start_is}
 use Rattle.perf_outlines.proofs.ReadLaws.{has_event, no_event_of, foreign_entry, not_other, entry_read}
-use Rattle.perf_outlines.proofs.file_read.read_entry.Goals as goal
+use Rattle.perf_event_c.proofs.file_read.read_entry.Goals as goal
 
 pub returns-in_default : goal.returns-in_default
 returns-in_default c o f sketched whole file states =
