@@ -56,7 +56,7 @@ OTHERS = {
     "Tests": ["perf_program_tests", "perf_unit_tests", "perf_call_tests", "perf_frame_tests", "perf_out_of_memory", "perf_replay"],
     "Tests of files": ["perf_file_tests", "perf_script_tests"],
     "Tests without a parser": ["perf_value_tests"],
-    "What tests share": ["perf_test_inputs", "perf_test_helpers", "perf_test_values", "perf_test_texts", "perf_test_runs"],
+    "What tests share": ["perf_test_inputs", "perf_test_helpers", "perf_test_texts", "perf_test_runs"],
 }
 
 STYLE = """<style>

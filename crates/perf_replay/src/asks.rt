@@ -4,28 +4,22 @@ use perf_event_data::endian::{Dynamic, Endian, Native};
 use perf_event_data::parse::{
     Parse, ParseBuf, ParseBufCursor, ParseConfig, ParseRecord, ParseResult, Parser,
 };
-use perf_event_data::sys::{perf_event_attr, perf_event_header};
+use perf_event_data::sys::perf_event_attr;
 use perf_event_data::{PieceBuf, ReadGroup, Record, RecordMetadata, Sample};
 use perf_test_helpers::everywhere::{Buffer, Question, parser_of, text_everywhere};
 use perf_test_helpers::lines::write_last_frame;
 use perf_test_helpers::over_buffer;
 use perf_test_inputs::configurations::write_config;
 use perf_test_runs::perfrec::Perfrec;
-use perf_test_runs::{next_record, write_lists};
+use perf_test_runs::{next_header, next_record, write_lists};
 use perf_test_texts::texts::{
     write_both_ends, write_found, write_found_spaces, write_group, write_last_record, write_values,
 };
-use perf_test_values::write_value;
+use perf_test_texts::values::write_value;
 use std::alloc::{AllocError, Global};
 use std::io::BufReader;
 
 // ---- records and samples
-
-fn next_header<'p, B: ParseBuf<'p>, E: Endian>(
-    parser: &mut Parser<B, E>,
-) -> ParseResult<perf_event_header> {
-    perf_event_header::parse(parser)
-}
 
 // The record after a header that is parsed first.
 fn write_after_header<'p, B: ParseBuf<'p>, E: Endian>(
@@ -41,12 +35,16 @@ fn write_after_header<'p, B: ParseBuf<'p>, E: Endian>(
     }
 }
 
-// The next sample, as a record.
+// The next sample.
 fn next_sample<'p, B: ParseBuf<'p>, E: Endian>(
-    alloc: Global,
     parser: &mut Parser<B, E>,
-) -> ParseResult<Record<'p>> {
-    match Sample::parse(parser) {
+) -> ParseResult<Sample<'p>> {
+    Sample::parse(parser)
+}
+
+// A sample as a record.
+fn record_of<'p>(alloc: Global, answer: ParseResult<Sample<'p>>) -> ParseResult<Record<'p>> {
+    match answer {
         Ok(sample) => Record::from_sample(alloc, sample),
         Err(error) => Err(error),
     }
@@ -56,7 +54,7 @@ fn write_sample<'p, B: ParseBuf<'p>, E: Endian>(
     text: &mut String,
     parser: &mut Parser<B, E>,
 ) -> Result<(), AllocError> {
-    let answer = next_sample(*text.allocator(), parser);
+    let answer = record_of(*text.allocator(), next_sample(parser));
     write_last_record(text, &Perfrec, answer)
 }
 
@@ -103,7 +101,7 @@ fn write_record<'p, B: ParseBuf<'p>, E: Endian>(
         "parse_with_header" => write_after_header(text, parser),
         "namespaces" => write_found_spaces(text, &Perfrec, next_record(parser)),
         "Sample" => write_sample(text, parser),
-        "values" => write_values(text, Sample::parse(parser)),
+        "values" => write_values(text, next_sample(parser)),
         _ => write_value(text, parser, name, count),
     }
 }

@@ -3,6 +3,7 @@
 #![tactic(auto)]
 
 pub mod attributes;
+pub mod drops;
 pub mod everywhere;
 pub mod frames;
 pub mod lines;

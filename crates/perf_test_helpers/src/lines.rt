@@ -1,5 +1,6 @@
 //! The lines of frames.
 
+use crate::drops::drop_record;
 use perf_base::sys::perf_event_header;
 use perf_counters::ReadGroup;
 use perf_parser::parse::{ParseError, ParseResult};
@@ -42,7 +43,7 @@ pub fn write_last_frame<L: WriteLine>(
     answer: ParseResult<Record<'_>>,
 ) -> Result<(), AllocError> {
     let written = write_frame(text, lines, index, header, &answer);
-    drop(answer);
+    drop_record(answer);
     written
 }
 

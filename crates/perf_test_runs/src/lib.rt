@@ -17,6 +17,7 @@ use perf_records::frame::Frame as WholeFrame;
 use perf_records::frame_handler::{BadFrame, FrameHandler};
 use perf_records::frame_list::frames;
 use perf_records::record::Record;
+use perf_test_helpers::drops::{drop_record, drop_run, end_of};
 use perf_test_helpers::everywhere::{Buffer, OTHERS, Question, add_other, add_over, parser_of};
 use perf_test_helpers::lines::{WriteLine, write_error, write_frame, write_last_frame};
 use perf_test_helpers::over_buffer;
@@ -94,7 +95,7 @@ fn write_last_run<L: WriteLine>(
     run: Run<'_>,
 ) -> Result<(), AllocError> {
     let written = write_frames_and_end(text, lines, &run);
-    drop(run);
+    drop_run(run);
     written
 }
 
@@ -221,7 +222,6 @@ pub fn text_of_runs<'p, B: ParseBuf<'p> + Drop, E: Endian, L: WriteLine>(
 // ---- runs that hand out frames, in the form of those that list records
 
 // Lists the frames of a run, each with its record.
-#[derive(Drop)]
 struct FrameLister<'p> {
     alloc: Global,
     frames: Vec<Frame<'p>>,
@@ -240,10 +240,17 @@ impl<'p> FrameLister<'p> {
         config: &ParseConfig<E>,
         frame: Result<WholeFrame<'_, 'p>, BadFrame>,
     ) -> bool {
-        let pushed = self.frames.push(listed(self.alloc, config, frame));
-        let is_listed = pushed.is_ok();
-        drop(pushed);
-        is_listed
+        let is_reserved = self.frames.reserve(1).is_ok();
+        if is_reserved {
+            self.frames.push_reserved(listed(self.alloc, config, frame));
+        }
+        is_reserved
+    }
+
+    // The run of the frames that are listed.
+    fn run(self, end: RunEnd) -> Run<'p> {
+        let FrameLister { alloc: _, frames } = self;
+        Run { frames, end }
     }
 }
 
@@ -290,10 +297,7 @@ fn run_by_frames<'p, B: ParseBuf<'p>, E: Endian>(
 ) -> Run<'p> {
     let mut lister = FrameLister::new(alloc);
     let end = end_by_frames(parser, limit, &mut lister);
-    Run {
-        frames: lister.frames,
-        end,
-    }
+    lister.run(end)
 }
 
 // Lists the frames of a slice, and returns whether none of its bytes are left.
@@ -323,14 +327,11 @@ fn run_of_slice<'p, E: Endian>(
 ) -> Run<'p> {
     let mut lister = FrameLister::new(alloc);
     let is_done = list_slice(&mut lister, bytes, order, config);
-    Run {
-        frames: lister.frames,
-        end: if is_done {
-            RunEnd::Done
-        } else {
-            RunEnd::CutHeader
-        },
-    }
+    lister.run(if is_done {
+        RunEnd::Done
+    } else {
+        RunEnd::CutHeader
+    })
 }
 
 // ---- runs over many buffers
@@ -471,6 +472,13 @@ pub fn differences<E: Endian + Copy, L: WriteLine>(
 
 // ---- records one by one
 
+/// The next header.
+pub fn next_header<'p, B: ParseBuf<'p>, E: Endian>(
+    parser: &mut Parser<B, E>,
+) -> ParseResult<perf_event_header> {
+    perf_event_header::parse(parser)
+}
+
 /// The next record.
 pub fn next_record<'p, B: ParseBuf<'p>, E: Endian>(
     parser: &mut Parser<B, E>,
@@ -488,7 +496,7 @@ pub fn write_debug_record(
         Err(error) => write_error(text, error),
     };
     let is_record = answer.is_ok();
-    drop(answer);
+    drop_record(answer);
     written?;
     Ok(is_record)
 }
@@ -524,9 +532,7 @@ pub fn fault_of_run<'p, B: ParseBuf<'p>, E: Endian>(
     parser: &mut Parser<B, E>,
     limit: usize,
 ) -> Option<ParseError> {
-    let Run { frames, end } = read_records(parser, limit);
-    drop(frames);
-    match end {
+    match end_of(read_records(parser, limit)) {
         RunEnd::Fault(error) => Some(error),
         _ => None,
     }
@@ -536,5 +542,11 @@ pub fn fault_of_run<'p, B: ParseBuf<'p>, E: Endian>(
 pub fn error_of_record<'p, B: ParseBuf<'p>, E: Endian>(
     parser: &mut Parser<B, E>,
 ) -> Option<ParseError> {
-    next_record(parser).err()
+    match next_record(parser) {
+        Ok(record) => {
+            drop_record(Ok(record));
+            None
+        }
+        Err(error) => Some(error),
+    }
 }

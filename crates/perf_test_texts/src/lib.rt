@@ -3,3 +3,4 @@
 
 pub mod reasons;
 pub mod texts;
+pub mod values;

@@ -11,8 +11,10 @@ use perf_records::frame_handler::{BadFrame, FrameHandler};
 use perf_records::frame_list::frames;
 use perf_records::metadata::RecordMetadata;
 use perf_records::partial::{Partial, PartialVisitor};
+use perf_records::record::Record;
 use perf_sample_types::sample::Sample;
 use perf_sample_types::sample_fields::SampleFields;
+use perf_test_helpers::drops::{drop_record, drop_run, drop_sample};
 use perf_test_helpers::everywhere::{add_other, parser_of};
 use std::alloc::{AllocError, Global};
 
@@ -33,6 +35,17 @@ impl PartialVisitor for Nothing {
 
 // The message of a refusal.
 fn message_of<T: Drop>(alloc: Global, answer: ParseResult<T>) -> Result<String, AllocError> {
+    match answer {
+        Ok(_) => String::from_str(alloc, "accepted"),
+        Err(error) => format!(in alloc; "{error}"),
+    }
+}
+
+// That of a record.
+fn message_of_record(
+    alloc: Global,
+    answer: &ParseResult<Record<'_>>,
+) -> Result<String, AllocError> {
     match answer {
         Ok(_) => String::from_str(alloc, "accepted"),
         Err(error) => format!(in alloc; "{error}"),
@@ -78,8 +91,7 @@ fn by_each_frame(alloc: Global, parser: &mut Parser<&[u8], Little>) -> Result<St
 // That of the first frame of a run.
 fn message_of_first(alloc: Global, run: &Run<'_>) -> Result<String, AllocError> {
     match run.frames.first() {
-        Some((_, Err(error))) => format!(in alloc; "{error}"),
-        Some((_, Ok(_))) => String::from_str(alloc, "accepted"),
+        Some((_, answer)) => message_of_record(alloc, answer),
         None => String::from_str(alloc, "no frame"),
     }
 }
@@ -90,7 +102,18 @@ fn by_read_records(
 ) -> Result<String, AllocError> {
     let run = read_records(parser, 1);
     let text = message_of_first(alloc, &run);
-    drop(run);
+    drop_run(run);
+    text
+}
+
+fn by_record(
+    alloc: Global,
+    config: &ParseConfig<Little>,
+    frame: &Frame<'_, '_>,
+) -> Result<String, AllocError> {
+    let answer = frame.record(alloc, config);
+    let text = message_of_record(alloc, &answer);
+    drop_record(answer);
     text
 }
 
@@ -101,7 +124,7 @@ fn by_sample_into<'p>(
 ) -> Result<String, AllocError> {
     let mut sample: Sample<'p> = Sample::from_fields(SampleFields::default());
     let answer = frame.sample_into(alloc, config, &mut sample);
-    drop(sample);
+    drop_sample(sample);
     message_of(alloc, answer)
 }
 
@@ -113,7 +136,7 @@ fn by_frame(
     frame: &Frame<'_, '_>,
 ) -> Result<String, AllocError> {
     match call {
-        "record" => message_of(alloc, frame.record(alloc, config)),
+        "record" => by_record(alloc, config, frame),
         "visit" => message_of(alloc, frame.visit(alloc, config, Partial(Nothing))),
         "metadata" => message_of(alloc, frame.metadata(alloc, config)),
         "sample_into" => by_sample_into(alloc, config, frame),

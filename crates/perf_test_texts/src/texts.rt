@@ -5,6 +5,7 @@ use perf_counters::{GroupIter, ReadGroup, ReadValue};
 use perf_parser::parse::ParseResult;
 use perf_records::record::Record;
 use perf_sample_types::sample::Sample;
+use perf_test_helpers::drops::{drop_record, drop_sample};
 use perf_test_helpers::lines::{WriteLine, write_error, write_frame};
 use perf_types::Namespaces;
 use std::alloc::AllocError;
@@ -52,7 +53,7 @@ pub fn write_last_record<L: WriteLine>(
     answer: ParseResult<Record<'_>>,
 ) -> Result<(), AllocError> {
     let written = write_record(text, lines, &answer);
-    drop(answer);
+    drop_record(answer);
     written
 }
 
@@ -113,7 +114,7 @@ pub fn write_found<L: WriteLine>(
     answer: ParseResult<Record<'_>>,
 ) -> Result<(), AllocError> {
     let written = write_record_or_error(text, lines, &answer);
-    drop(answer);
+    drop_record(answer);
     written
 }
 
@@ -125,7 +126,7 @@ pub fn write_found_spaces<L: WriteLine>(
     answer: ParseResult<Record<'_>>,
 ) -> Result<(), AllocError> {
     let written = write_with_spaces(text, lines, &answer);
-    drop(answer);
+    drop_record(answer);
     written
 }
 
@@ -217,24 +218,23 @@ fn write_one(text: &mut String, group: ReadGroup<'_>) -> Result<(), AllocError> 
     }
 }
 
-// A sample has the text of its group.
-impl WriteText for Sample<'_> {
-    fn write_text(&self, text: &mut String) -> Result<(), AllocError> {
-        match self.values() {
-            Some(group) => group.write_text(text),
-            None => text.push_str("no group"),
-        }
+fn write_group_of(text: &mut String, sample: &Sample<'_>) -> Result<(), AllocError> {
+    match sample.values() {
+        Some(group) => group.write_text(text),
+        None => text.push_str("no group"),
     }
-}
-
-/// Drops a sample, so that a crate of tests need not prove how that is done.
-pub fn drop_sample(sample: Sample<'_>) {
-    drop(sample);
 }
 
 /// Writes a sample by the text of its group, or its error, and drops it.
 pub fn write_values(text: &mut String, answer: ParseResult<Sample<'_>>) -> Result<(), AllocError> {
-    write_answer(text, answer)
+    match answer {
+        Ok(sample) => {
+            let written = write_group_of(text, &sample);
+            drop_sample(sample);
+            written
+        }
+        Err(error) => write!(text, "{error}"),
+    }
 }
 
 /// Writes a group of counters or its error, and drops it.

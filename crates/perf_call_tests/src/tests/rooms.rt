@@ -5,6 +5,7 @@ use perf_event_data::endian::Little;
 use perf_event_data::parse::{ParseBuf, ParseConfig, ParseResult, Parser};
 use perf_event_data::sys::perf_event_header;
 use perf_event_data::{PieceBuf, Record, read_records};
+use perf_test_helpers::drops::drop_run;
 use perf_test_inputs::bytes::{FIVE_LOST, TWO};
 use std::alloc::Global;
 use std::io::BufReader;
@@ -17,7 +18,7 @@ fn room<'p, B: ParseBuf<'p> + Drop>(alloc: Global, buf: B, limit: usize) -> (usi
     let mut parser = Parser::new(alloc, buf, ParseConfig::<Little>::default());
     let run = read_records(&mut parser, limit);
     let room = (run.frames.len(), run.frames.capacity());
-    drop(run);
+    drop_run(run);
     room
 }
 

@@ -8,6 +8,7 @@ use perf_event_data::parse::{ErrorKind, ParseError, ParseResult};
 use perf_event_data::sys::perf_event_header;
 use perf_lines::outcome::Outcome;
 use perf_run::line_of;
+use perf_test_helpers::drops::drop_record;
 use perf_text::args::command;
 use perf_text::command::Command;
 use perf_text::order::OrderName;
@@ -73,7 +74,7 @@ fn text_of_line(alloc: Global, kind: ErrorKind) -> ParseResult<String> {
     };
     let answer: ParseResult<Record<'_>> = Err(ParseError::custom(kind, "why"));
     let line = line_of(alloc, 7, &header, &answer);
-    drop(answer);
+    drop_record(answer);
     line
 }
 

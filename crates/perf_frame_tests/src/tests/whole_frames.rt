@@ -11,10 +11,10 @@ use perf_event_data::{
     SampleFields, SampleFlags, each_frame, frames,
 };
 use perf_test_helpers::attributes::ids_attribute;
+use perf_test_helpers::drops::drop_sample;
 use perf_test_helpers::lines::write_error;
 use perf_test_inputs::bytes::{FIVE_LOST, TWO};
 use perf_test_runs::write_debug_record;
-use perf_test_texts::texts::drop_sample;
 use std::alloc::{AllocError, Global};
 
 // The fields of the samples.

@@ -3,12 +3,11 @@
 use crate::tests::cases::{Case, Request, check_case, check_cases, kind_of};
 use crate::tests::checks::check_answer;
 use perf_base::endian::{Dynamic, Endian, Little, Native};
-use perf_base::sys::perf_event_header;
 use perf_base::{ParseConfig, ParseResult};
-use perf_event_data::parse::{Parse, ParseBuf, Parser};
+use perf_event_data::parse::{ParseBuf, Parser};
 use perf_test_inputs::orders::{Counting, Words};
 use perf_test_runs::perfrec::Perfrec;
-use perf_test_runs::text_of_runs;
+use perf_test_runs::{next_header, text_of_runs};
 use std::alloc::Global;
 use std::cell::Cell;
 
@@ -44,7 +43,7 @@ fn text_of_refusals<'p, B: ParseBuf<'p>, E: Endian>(
     parser: &mut Parser<B, E>,
 ) -> ParseResult<String> {
     let first = kind_of(parser.parse_metadata());
-    let header = perf_event_header::parse(parser)?;
+    let header = next_header(parser)?;
     let second = kind_of(parser.parse_metadata_with_header(header));
     let left = text_of_left(alloc, parser)?;
     Ok(format!(in alloc; "{first:?} {header:?} {second:?} {left}")?)
@@ -183,7 +182,7 @@ fn text_of_parser<'p, B: ParseBuf<'p>>(
     parser: &mut Parser<B, Dynamic>,
 ) -> ParseResult<String> {
     let orders = [*parser.endian(), *parser.config().endian()];
-    let header = perf_event_header::parse(parser)?;
+    let header = next_header(parser)?;
     Ok(format!(in alloc; "{orders:?} {header:?}")?)
 }
 

@@ -7,7 +7,8 @@ use perf_event_data::{
     LostSamples, Mmap, Mmap2, Namespaces, PartialVisitor, Read, RecordMetadata, Sample,
     SwitchCpuWide, TextPoke, Throttle,
 };
-use perf_test_texts::texts::{WriteText, drop_sample};
+use perf_test_helpers::drops::drop_sample;
+use perf_test_texts::texts::WriteText;
 use std::alloc::AllocError;
 use std::cell::Cell;
 

@@ -1,7 +1,8 @@
-//! The values that a parser is asked for by their names, as text, but those whose text
-//! `perf_test_texts` has.
-#![tactic(auto)]
+//! The values that a parser is asked for by their names, as text, but those whose text [`texts`] has.
+//!
+//! [`texts`]: crate::texts
 
+use crate::texts::{WriteText, write_answer};
 use perf_base::CowSlice;
 use perf_base::endian::Endian;
 use perf_base::sys::perf_event_attr;
@@ -16,22 +17,6 @@ use std::fmt::Debug;
 
 // ---- values
 
-// The text of a value.
-trait WriteText {
-    fn write_text(&self, text: &mut String) -> Result<(), AllocError>;
-}
-
-// The text of a value or of its error.
-fn write_answer<T: WriteText + Drop>(
-    text: &mut String,
-    answer: ParseResult<T>,
-) -> Result<(), AllocError> {
-    match answer {
-        Ok(value) => value.write_text(text),
-        Err(error) => write!(text, "{error}"),
-    }
-}
-
 // A value, or its error.
 fn write_debug<T: Debug + Drop>(
     text: &mut String,
@@ -41,22 +26,6 @@ fn write_debug<T: Debug + Drop>(
         Ok(value) => write!(text, "{value:?}"),
         Err(error) => write!(text, "{error}"),
     }
-}
-
-// The next value of a type.
-fn write_shown<'p, B: ParseBuf<'p>, E: Endian, P: Parse<'p, B> + Debug + Drop>(
-    text: &mut String,
-    parser: &mut Parser<B, E>,
-) -> Result<(), AllocError> {
-    write_debug(text, P::parse(parser))
-}
-
-// The same of a type that has a text here.
-fn write_next<'p, B: ParseBuf<'p>, E: Endian, P: Parse<'p, B> + WriteText + Drop>(
-    text: &mut String,
-    parser: &mut Parser<B, E>,
-) -> Result<(), AllocError> {
-    write_answer(text, P::parse(parser))
 }
 
 // Numbers of a type: one; one under a condition, which is true if the count is not zero; or a list
@@ -72,7 +41,7 @@ fn write_numbers<'p, B: ParseBuf<'p>, E: Endian, P: Parse<'p, B> + Debug + Drop>
     } else if name.starts_with("parse_repeated") {
         write_debug(text, parser.parse_repeated::<P>(count))
     } else {
-        write_shown::<B, E, P>(text, parser)
+        write_debug(text, P::parse(parser))
     }
 }
 
@@ -196,10 +165,10 @@ fn write_array<'p, B: ParseBuf<'p>, E: Endian>(
     name: &str,
 ) -> Result<(), AllocError> {
     match name {
-        "[u8;0]" => write_shown::<B, E, [u8; 0]>(text, parser),
-        "[u8;1]" => write_shown::<B, E, [u8; 1]>(text, parser),
-        "[u8;2]" => write_shown::<B, E, [u8; 2]>(text, parser),
-        "[u8;4]" => write_shown::<B, E, [u8; 4]>(text, parser),
+        "[u8;0]" => write_debug(text, <[u8; 0]>::parse(parser)),
+        "[u8;1]" => write_debug(text, <[u8; 1]>::parse(parser)),
+        "[u8;2]" => write_debug(text, <[u8; 2]>::parse(parser)),
+        "[u8;4]" => write_debug(text, <[u8; 4]>::parse(parser)),
         _ => write_body(text, parser, name),
     }
 }
@@ -211,14 +180,14 @@ fn write_body<'p, B: ParseBuf<'p>, E: Endian>(
     name: &str,
 ) -> Result<(), AllocError> {
     match name {
-        "Comm" => write_next::<B, E, Comm>(text, parser),
-        "Exit" => write_shown::<B, E, Exit>(text, parser),
-        "Lost" => write_shown::<B, E, Lost>(text, parser),
-        "LostSamples" => write_shown::<B, E, LostSamples>(text, parser),
-        "Mmap" => write_next::<B, E, Mmap>(text, parser),
-        "Read" => write_shown::<B, E, Read>(text, parser),
-        "SwitchCpuWide" => write_shown::<B, E, SwitchCpuWide>(text, parser),
-        "Throttle" => write_shown::<B, E, Throttle>(text, parser),
+        "Comm" => write_answer(text, Comm::parse(parser)),
+        "Exit" => write_debug(text, Exit::parse(parser)),
+        "Lost" => write_debug(text, Lost::parse(parser)),
+        "LostSamples" => write_debug(text, LostSamples::parse(parser)),
+        "Mmap" => write_answer(text, Mmap::parse(parser)),
+        "Read" => write_debug(text, Read::parse(parser)),
+        "SwitchCpuWide" => write_debug(text, SwitchCpuWide::parse(parser)),
+        "Throttle" => write_debug(text, Throttle::parse(parser)),
         _ => write_beside(text, parser, name),
     }
 }
@@ -230,9 +199,9 @@ fn write_beside<'p, B: ParseBuf<'p>, E: Endian>(
     name: &str,
 ) -> Result<(), AllocError> {
     match name {
-        "ReadValue" => write_shown::<B, E, ReadValue>(text, parser),
-        "perf_event_attr" => write_shown::<B, E, perf_event_attr>(text, parser),
-        "SampleId" => write_shown::<B, E, SampleId>(text, parser),
+        "ReadValue" => write_debug(text, ReadValue::parse(parser)),
+        "perf_event_attr" => write_debug(text, perf_event_attr::parse(parser)),
+        "SampleId" => write_debug(text, SampleId::parse(parser)),
         _ => write_part_of_sample(text, parser, name),
     }
 }
@@ -246,10 +215,10 @@ fn write_part_of_sample<'p, B: ParseBuf<'p>, E: Endian>(
     match name {
         "parse_user" => write_debug(text, Registers::parse_user(parser)),
         "parse_intr" => write_debug(text, Registers::parse_intr(parser)),
-        "BranchEntry" => write_next::<B, E, BranchEntry>(text, parser),
-        "DataSource" => write_next::<B, E, DataSource>(text, parser),
-        "Txn" => write_shown::<B, E, Txn>(text, parser),
-        "SampleRegsAbi" => write_shown::<B, E, SampleRegsAbi>(text, parser),
+        "BranchEntry" => write_answer(text, BranchEntry::parse(parser)),
+        "DataSource" => write_answer(text, DataSource::parse(parser)),
+        "Txn" => write_debug(text, Txn::parse(parser)),
+        "SampleRegsAbi" => write_debug(text, SampleRegsAbi::parse(parser)),
         _ => write!(text, "what is {name}?"),
     }
 }
