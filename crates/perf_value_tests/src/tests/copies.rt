@@ -1,7 +1,7 @@
 //! Copies of records and of groups of counters, and the results of their calls. The text of a value
 //! is all of its fields, and of each list whether it is borrowed.
 
-use crate::tests::checks::check_parsed_text;
+use crate::tests::checks::{add, check_text, end_line};
 use crate::tests::groups::{of_none, single_with_id, with_ids, without_ids};
 use bitflags::Flags;
 use perf_base::{CowSlice, ParseResult};
@@ -13,7 +13,7 @@ use perf_types::{
 use perf_words::flags::KSymbolFlags;
 use perf_words::named::KSymbolType;
 use perf_words::{ReadFormat, SampleRegsAbi};
-use std::alloc::{AllocError, Global};
+use std::alloc::Global;
 use std::fmt::Debug;
 use std::process::Abort;
 
@@ -21,10 +21,9 @@ use std::process::Abort;
 trait CloneText: Debug + Sized + Drop {
     fn clone_copy(&self, alloc: Global) -> ParseResult<Self>;
 
-    // Writes the results of its calls, if it has any.
-    fn write_calls(&self, text: &mut String) -> Result<(), AllocError> {
+    // Adds the results of its calls, if it has any.
+    fn add_calls(&self, text: &mut String) {
         let _ = text;
-        Ok(())
     }
 }
 
@@ -38,12 +37,8 @@ impl CloneText for CowSlice<'_, u64> {
         self.clone(alloc)
     }
 
-    fn write_calls(&self, text: &mut String) -> Result<(), AllocError> {
-        write!(
-            text,
-            " {:?}",
-            (self.as_slice(), self.len(), self.is_empty())
-        )
+    fn add_calls(&self, text: &mut String) {
+        add(text, &(self.as_slice(), self.len(), self.is_empty()));
     }
 }
 
@@ -58,8 +53,8 @@ impl CloneText for Comm<'_> {
         self.clone(alloc)
     }
 
-    fn write_calls(&self, text: &mut String) -> Result<(), AllocError> {
-        write!(text, " {:?}", self.comm_os())
+    fn add_calls(&self, text: &mut String) {
+        add(text, &self.comm_os());
     }
 }
 
@@ -74,8 +69,8 @@ impl CloneText for CGroup<'_> {
         self.clone(alloc)
     }
 
-    fn write_calls(&self, text: &mut String) -> Result<(), AllocError> {
-        write!(text, " {:?}", self.path_os())
+    fn add_calls(&self, text: &mut String) {
+        add(text, &self.path_os());
     }
 }
 
@@ -102,8 +97,8 @@ impl CloneText for Mmap<'_> {
         self.clone(alloc)
     }
 
-    fn write_calls(&self, text: &mut String) -> Result<(), AllocError> {
-        write!(text, " {:?}", self.filename_os())
+    fn add_calls(&self, text: &mut String) {
+        add(text, &self.filename_os());
     }
 }
 
@@ -118,9 +113,11 @@ impl CloneText for Mmap2<'_> {
         self.clone(alloc)
     }
 
-    fn write_calls(&self, text: &mut String) -> Result<(), AllocError> {
-        let inode = (self.maj(), self.min(), self.ino(), self.ino_generation());
-        write!(text, " {:?}", (inode, self.build_id(), self.filename_os()))
+    fn add_calls(&self, text: &mut String) {
+        add(text, &(self.maj(), self.min()));
+        add(text, &(self.ino(), self.ino_generation()));
+        add(text, &self.build_id());
+        add(text, &self.filename_os());
     }
 }
 
@@ -148,14 +145,11 @@ impl CloneText for ReadGroup<'_> {
     }
 
     // The last of its results is the entry of id 6.
-    fn write_calls(&self, text: &mut String) -> Result<(), AllocError> {
-        let numbers = (
-            self.len(),
-            self.is_empty(),
-            self.time_enabled(),
-            self.time_running(),
-        );
-        write!(text, " {:?}", (numbers, [self.get(0), self.get_by_id(6)]))
+    fn add_calls(&self, text: &mut String) {
+        add(text, &(self.len(), self.is_empty()));
+        add(text, &[self.time_enabled(), self.time_running()]);
+        add(text, &self.get(0));
+        add(text, &self.get_by_id(6));
     }
 }
 
@@ -176,80 +170,75 @@ impl CloneText for Namespaces<'_> {
         self.clone(alloc)
     }
 
-    fn write_calls(&self, text: &mut String) -> Result<(), AllocError> {
-        let first = [self.network(), self.uts(), self.ipc()];
-        write!(
-            text,
-            " {:?}",
-            (first, [self.pid(), self.user(), self.cgroup()])
-        )
+    fn add_calls(&self, text: &mut String) {
+        add(text, &[self.network(), self.uts(), self.ipc()]);
+        add(text, &[self.pid(), self.user(), self.cgroup()]);
     }
 }
 
-// Writes a value and the results of its calls on a line.
-fn write_value<T: CloneText>(text: &mut String, value: &T) -> Result<(), AllocError> {
-    write!(text, "{value:?}")?;
-    value.write_calls(text)?;
-    text.push_str("\n")
+// Adds a value and the results of its calls on a line.
+fn add_value<T: CloneText>(text: &mut String, value: &T) {
+    add(text, value);
+    value.add_calls(text);
+    end_line(text);
 }
 
-// Writes a value, and lets go of it.
-fn write_last<T: CloneText>(text: &mut String, value: T) -> ParseResult<()> {
-    let written = write_value(text, &value);
-    drop(value);
-    Ok(written?)
+// Adds a value, and lets go of it.
+fn add_last<T: CloneText>(text: &mut String, answer: ParseResult<T>) {
+    match answer {
+        Ok(value) => {
+            add_value(text, &value);
+            drop(value);
+        }
+        Err(error) => add(text, &error),
+    }
 }
 
-// Writes a value and its clone.
-fn write_with_clone<T: CloneText>(text: &mut String, alloc: Global, value: &T) -> ParseResult<()> {
-    write_value(text, value)?;
-    write_last(text, value.clone_copy(alloc)?)
+// Adds a value and its clone.
+fn add_with_clone<T: CloneText>(text: &mut String, alloc: Global, value: &T) {
+    add_value(text, value);
+    add_last(text, value.clone_copy(alloc));
 }
 
-// Writes a value and its clone, and makes its owned copy.
-fn write_and_own<T: Owning>(text: &mut String, alloc: Global, value: T) -> ParseResult<T> {
-    write_with_clone(text, alloc, &value)?;
-    value.into_owned_copy(alloc)
+// Adds a value and its clone, and makes its owned copy.
+fn add_and_own<T: Owning>(
+    text: &mut String,
+    alloc: Global,
+    answer: ParseResult<T>,
+) -> ParseResult<T> {
+    match answer {
+        Ok(value) => {
+            add_with_clone(text, alloc, &value);
+            value.into_owned_copy(alloc)
+        }
+        Err(error) => Err(error),
+    }
 }
 
-// Writes a value, its clone, its owned copy, and the clone and the owned copy of that.
-fn write_copies<T: Owning>(text: &mut String, alloc: Global, value: T) -> ParseResult<()> {
-    let owned = write_and_own(text, alloc, value)?;
-    let again = write_and_own(text, alloc, owned)?;
-    write_last(text, again)
-}
-
-// The text of these.
-fn text_with_copies<T: Owning>(alloc: Global, value: ParseResult<T>) -> ParseResult<String> {
-    let mut text = String::new(alloc);
-    write_copies(&mut text, alloc, value?)?;
-    Ok(text)
-}
-
-// Asserts it.
+// Asserts the text of a value, its clone, its owned copy, and the clone and the owned copy of that.
 fn check_copies<T: Owning>(rt: &(impl AllocGlobal + Abort), value: ParseResult<T>, want: &str) {
-    check_parsed_text(rt, text_with_copies(rt.alloc(), value), want);
+    let mut text = String::new(rt.alloc());
+    let owned = add_and_own(&mut text, rt.alloc(), value);
+    let again = add_and_own(&mut text, rt.alloc(), owned);
+    add_last(&mut text, again);
+    check_text(rt, text, want);
 }
 
-// The text of a value and of its clone.
-fn text_with_clone<T: CloneText>(alloc: Global, value: ParseResult<T>) -> ParseResult<String> {
-    let mut text = String::new(alloc);
-    let value = value?;
-    let written = write_with_clone(&mut text, alloc, &value);
-    drop(value);
-    written?;
-    Ok(text)
-}
-
-// Asserts it.
+// Asserts the text of a value and of its clone.
 fn check_clone<T: CloneText>(rt: &(impl AllocGlobal + Abort), value: ParseResult<T>, want: &str) {
-    check_parsed_text(rt, text_with_clone(rt.alloc(), value), want);
+    let mut text = String::new(rt.alloc());
+    if let Ok(value) = &value {
+        add_value(&mut text, value);
+        add_last(&mut text, value.clone_copy(rt.alloc()));
+    }
+    drop(value);
+    check_text(rt, text, want);
 }
 
 // The lines of a value whose lists, between the parts, are of this form, and of its clone.
 macro_rules! clones {
     ($form:literal: $first:literal $(, $part:literal)+) => {
-        concat!($first $(, $form, $part)+, "\n", $first $(, $form, $part)+, "\n")
+        concat!($first $(, $form, $part)+, " \n", $first $(, $form, $part)+, " \n")
     };
 }
 
@@ -257,9 +246,9 @@ macro_rules! clones {
 macro_rules! copies {
     ($first:literal $(, $part:literal)+) => {
         concat!(
-            $first $(, "Borrowed", $part)+, "\n", $first $(, "Borrowed", $part)+, "\n",
-            $first $(, "Owned", $part)+, "\n", $first $(, "Owned", $part)+, "\n",
-            $first $(, "Owned", $part)+, "\n"
+            $first $(, "Borrowed", $part)+, " \n", $first $(, "Borrowed", $part)+, " \n",
+            $first $(, "Owned", $part)+, " \n", $first $(, "Owned", $part)+, " \n",
+            $first $(, "Owned", $part)+, " \n"
         )
     };
 }
@@ -268,9 +257,9 @@ macro_rules! copies {
 macro_rules! owned_copies {
     ($first:literal $(, $part:literal)+) => {
         concat!(
-            $first $(, "Owned", $part)+, "\n", $first $(, "Owned", $part)+, "\n",
-            $first $(, "Owned", $part)+, "\n", $first $(, "Owned", $part)+, "\n",
-            $first $(, "Owned", $part)+, "\n"
+            $first $(, "Owned", $part)+, " \n", $first $(, "Owned", $part)+, " \n",
+            $first $(, "Owned", $part)+, " \n", $first $(, "Owned", $part)+, " \n",
+            $first $(, "Owned", $part)+, " \n"
         )
     };
 }
@@ -475,13 +464,13 @@ fn mappings_by_an_inode(rt: HostRuntime) {
     let want = copies!(
         "Mmap2 { pid: 1, tid: 2, addr: 3, len: 4, pgoff: 5, prot: 6, flags: 7, filename: ",
         "([8, 9]), detail: Default { maj: 10, min: 11, ino: 12, ino_generation: 13 } } \
-            ((Some(10), Some(11), Some(12), Some(13)), None, Some(\"\\u{8}\\t\"))"
+            (Some(10), Some(11)) (Some(12), Some(13)) None Some(\"\\u{8}\\t\")"
     );
     check_copies(&rt, Ok(by_inode()), want);
     let want = copies!(
         "Mmap2 { pid: 1, tid: 2, addr: 4096, len: 8192, pgoff: 0, prot: 5, flags: 2, filename: ",
         "([97, 98]), detail: Default { maj: 8, min: 1, ino: 99, ino_generation: 3 } } \
-            ((Some(8), Some(1), Some(99), Some(3)), None, Some(\"ab\"))"
+            (Some(8), Some(1)) (Some(99), Some(3)) None Some(\"ab\")"
     );
     let mapping = by_another_inode();
     check_copies(&rt, Ok(mapping), want);
@@ -538,28 +527,28 @@ fn mappings_by_a_build_id(rt: HostRuntime) {
     let want = copies!(
         "Mmap2 { pid: 1, tid: 2, addr: 3, len: 4, pgoff: 5, prot: 6, flags: 7, filename: ",
         "([8, 9]), detail: BuildId { build_id: 0a0b0c } } \
-            ((None, None, None, None), Some([10, 11, 12]), Some(\"\\u{8}\\t\"))"
+            (None, None) (None, None) Some([10, 11, 12]) Some(\"\\u{8}\\t\")"
     );
     check_copies(&rt, Ok(by_build_id()), want);
     let want = owned_copies!(
         "Mmap2 { pid: 1, tid: 2, addr: 4096, len: 8192, pgoff: 0, prot: 5, flags: 2, filename: ",
         "([97, 98]), detail: BuildId { build_id: 0102030405060708090a0b0c0d0e0f1011121314 } } \
-            ((None, None, None, None), Some([1, 2, 3, 4, 5, 6, 7, 8, 9, 10, 11, 12, 13, 14, 15, \
-            16, 17, 18, 19, 20]), Some(\"ab\"))"
+            (None, None) (None, None) Some([1, 2, 3, 4, 5, 6, 7, 8, 9, 10, 11, 12, 13, 14, 15, \
+            16, 17, 18, 19, 20]) Some(\"ab\")"
     );
     let whole = by_whole_build_id(rt.alloc());
     check_copies(&rt, whole, want);
     let want = copies!(
         "Mmap2 { pid: 1, tid: 2, addr: 4096, len: 8192, pgoff: 0, prot: 5, flags: 2, filename: ",
         "([97, 98]), detail: BuildId { build_id: 0102 } } \
-            ((None, None, None, None), Some([1, 2]), Some(\"ab\"))"
+            (None, None) (None, None) Some([1, 2]) Some(\"ab\")"
     );
     let short = by_short_build_id();
     check_copies(&rt, short, want);
     let want = owned_copies!(
         "Mmap2 { pid: 1, tid: 2, addr: 4096, len: 8192, pgoff: 512, prot: 5, flags: 6, filename: ",
         "([47, 47, 97, 110, 111, 110]), detail: BuildId { build_id: 0102 } } \
-            ((None, None, None, None), Some([1, 2]), Some(\"//anon\"))"
+            (None, None) (None, None) Some([1, 2]) Some(\"//anon\")"
     );
     let owned = owned_by_build_id(rt.alloc());
     check_copies(&rt, owned, want);
@@ -655,29 +644,29 @@ fn a_group_of_counters(rt: HostRuntime) {
     let want = copies!(
         "ReadGroup { time_enabled: Some(1), time_running: None, with_id: true, with_lost: false, \
             words: ",
-        "([3, 4, 5, 6]) } ((2, false, Some(1), None), \
-            [Some(GroupEntry { value: 3, id: Some(4), lost: None }), \
-            Some(GroupEntry { value: 5, id: Some(6), lost: None })])"
+        "([3, 4, 5, 6]) } (2, false) [Some(1), None] \
+            Some(GroupEntry { value: 3, id: Some(4), lost: None }) \
+            Some(GroupEntry { value: 5, id: Some(6), lost: None })"
     );
     check_copies(&rt, Ok(group_of_counters()), want);
     let want = copies!(
         "ReadGroup { time_enabled: None, time_running: None, with_id: true, with_lost: false, \
             words: ",
-        "([10, 1, 20, 2, 30, 2]) } ((3, false, None, None), \
-            [Some(GroupEntry { value: 10, id: Some(1), lost: None }), None])"
+        "([10, 1, 20, 2, 30, 2]) } (3, false) [None, None] \
+            Some(GroupEntry { value: 10, id: Some(1), lost: None }) None"
     );
     check_copies(&rt, Ok(with_ids()), want);
     let want = copies!(
         "ReadGroup { time_enabled: Some(7), time_running: Some(8), with_id: false, \
             with_lost: true, words: ",
-        "([10, 1]) } ((1, false, Some(7), Some(8)), \
-            [Some(GroupEntry { value: 10, id: None, lost: Some(1) }), None])"
+        "([10, 1]) } (1, false) [Some(7), Some(8)] \
+            Some(GroupEntry { value: 10, id: None, lost: Some(1) }) None"
     );
     check_copies(&rt, Ok(without_ids()), want);
     let want = copies!(
         "ReadGroup { time_enabled: None, time_running: None, with_id: false, with_lost: false, \
             words: ",
-        "([]) } ((0, true, None, None), [None, None])"
+        "([]) } (0, true) [None, None] None None"
     );
     check_copies(&rt, Ok(of_none()), want);
 }
@@ -687,9 +676,9 @@ fn a_group_of_one_read(rt: HostRuntime) {
     let want = owned_copies!(
         "ReadGroup { time_enabled: None, time_running: None, with_id: true, with_lost: false, \
             words: ",
-        "([3, 6]) } ((1, false, None, None), \
-            [Some(GroupEntry { value: 3, id: Some(6), lost: None }), \
-            Some(GroupEntry { value: 3, id: Some(6), lost: None })])"
+        "([3, 6]) } (1, false) [None, None] \
+            Some(GroupEntry { value: 3, id: Some(6), lost: None }) \
+            Some(GroupEntry { value: 3, id: Some(6), lost: None })"
     );
     let group = ReadGroup::from_value(rt.alloc(), single_with_id());
     check_copies(&rt, group, want);
@@ -744,22 +733,22 @@ fn namespaces_of_a_task(rt: HostRuntime) {
     let want = clones!("Borrowed":
         "Namespaces { pid: 1, tid: 2, namespaces: ",
         "([NamespaceEntry { dev: 3, inode: 4 }]) } \
-            ([Some(NamespaceEntry { dev: 3, inode: 4 }), None, None], [None, None, None])"
+            [Some(NamespaceEntry { dev: 3, inode: 4 }), None, None] [None, None, None]"
     );
     let borrowed = spaces(CowSlice::Borrowed(&NETWORK));
     check_clone(&rt, Ok(borrowed), want);
     let want = clones!("Owned":
         "Namespaces { pid: 1, tid: 2, namespaces: ",
         "([NamespaceEntry { dev: 3, inode: 4 }]) } \
-            ([Some(NamespaceEntry { dev: 3, inode: 4 }), None, None], [None, None, None])"
+            [Some(NamespaceEntry { dev: 3, inode: 4 }), None, None] [None, None, None]"
     );
     let owned = owned_spaces(rt.alloc());
     check_clone(&rt, owned, want);
     let want = clones!("Borrowed":
         "Namespaces { pid: 1, tid: 2, namespaces: ",
         "([NamespaceEntry { dev: 3, inode: 4 }, NamespaceEntry { dev: 5, inode: 6 }]) } \
-            ([Some(NamespaceEntry { dev: 3, inode: 4 }), Some(NamespaceEntry { dev: 5, \
-            inode: 6 }), None], [None, None, None])"
+            [Some(NamespaceEntry { dev: 3, inode: 4 }), Some(NamespaceEntry { dev: 5, \
+            inode: 6 }), None] [None, None, None]"
     );
     let borrowed = spaces(CowSlice::Borrowed(&NETWORK_AND_NAME));
     check_clone(&rt, Ok(borrowed), want);

@@ -1,165 +1,205 @@
 //! The bytes of one frame, and the buffers that they are cut from.
 
-use crate::tests::checks::{check_parsed_text, check_same};
-use perf_base::{ErrorKind, ParseResult};
+use crate::tests::checks::{add, check_debug, check_text};
+use perf_base::ParseResult;
 use perf_buffers::cursor::ParseBufCursor;
 use perf_buffers::parsebuf::ParseBuf;
 use perf_buffers::pieces::PieceBuf;
 use std::alloc::Global;
 use std::io::BufReader;
-use std::test::Fail;
+use std::process::Abort;
 
 const BYTES: &[u8] = b"abcde";
 
-// Writes the bytes that a buffer shows, how long they live, and how many it reports.
-fn write_chunk<'p, B: ParseBuf<'p>>(text: &mut String, buf: &mut B) -> ParseResult<()> {
-    let left = buf.remaining_hint();
-    Ok(write!(text, "{:?} {left:?}; ", buf.chunk()?)?)
+// Adds how many bytes a buffer reports, and those that it shows, with how long they live.
+fn add_chunk<'p, B: ParseBuf<'p>>(text: &mut String, buf: &mut B) {
+    add(text, &buf.remaining_hint());
+    add(text, &buf.chunk());
 }
 
 // Advances by two bytes, if as many are shown.
-fn skip_two<'p, B: ParseBuf<'p>>(buf: &mut B) -> ParseResult<()> {
-    let count = buf.chunk()?.as_bytes().len();
+fn skip_two<'p, B: ParseBuf<'p>>(buf: &mut B) {
+    let count = match buf.chunk() {
+        Ok(chunk) => chunk.as_bytes().len(),
+        Err(_) => 0,
+    };
     if count >= 2 {
         buf.advance(2);
     }
-    Ok(())
 }
 
-// Writes what a buffer shows, and what it shows two bytes later.
-fn write_both<'p, B: ParseBuf<'p>>(text: &mut String, buf: &mut B) -> ParseResult<()> {
-    write_chunk(text, buf)?;
-    skip_two(buf)?;
-    write_chunk(text, buf)
+// Adds what a buffer shows, and what it shows two bytes later.
+fn add_both<'p, B: ParseBuf<'p>>(text: &mut String, buf: &mut B) {
+    add_chunk(text, buf);
+    skip_two(buf);
+    add_chunk(text, buf);
 }
 
-// The kind of an error.
-fn kind_of<T: Drop>(answer: ParseResult<T>) -> Option<ErrorKind> {
-    match answer {
-        Ok(_) => None,
-        Err(error) => Some(error.kind()),
+// The first byte that a buffer shows.
+fn first_of<'p, B: ParseBuf<'p>>(buf: &mut B) -> Option<u8> {
+    match buf.chunk() {
+        Ok(chunk) => chunk.as_bytes().first().copied(),
+        Err(_) => None,
     }
 }
 
-// Writes how many bytes a buffer reports, and which it shows first.
-fn write_first<'p, B: ParseBuf<'p>>(text: &mut String, buf: &mut B) -> ParseResult<()> {
-    let left = buf.remaining_hint();
-    let first = buf.chunk()?.as_bytes().first().copied();
-    Ok(write!(text, "{left:?} {first:?} ")?)
+// Adds what a cursor gives, or why there is none.
+fn add_given(text: &mut String, answer: ParseResult<ParseBufCursor<'_>>) {
+    match answer {
+        Ok(cursor) => {
+            add(text, &cursor.as_slice());
+            drop(cursor);
+        }
+        Err(error) => add(text, &error.kind()),
+    }
 }
 
-// Why there is no cursor over three bytes of a buffer, and whether it shows any after that.
-fn after_refusal<'p, B: ParseBuf<'p>>(alloc: Global, buf: &mut B) -> (Option<ErrorKind>, bool) {
-    let kind = kind_of(ParseBufCursor::new(alloc, buf, 3));
-    (kind, buf.chunk().is_ok())
-}
-
-// Writes that, and what a cursor over no bytes gives.
-fn write_after<'p, B: ParseBuf<'p>>(
-    text: &mut String,
-    alloc: Global,
-    buf: &mut B,
-) -> ParseResult<()> {
-    let (kind, shows) = after_refusal(alloc, buf);
-    let empty = ParseBufCursor::new(alloc, buf, 0)?;
-    Ok(write!(text, "{kind:?} {shows} {:?}", empty.as_slice())?)
-}
-
-// Writes what a cursor gives and shows.
-fn write_cursor(text: &mut String, cursor: &mut ParseBufCursor<'_>) -> ParseResult<()> {
-    write!(text, "{:?}: ", cursor.as_slice())?;
-    write_both(text, cursor)
+// Adds what a cursor gives and shows.
+fn add_cursor(text: &mut String, answer: ParseResult<ParseBufCursor<'_>>) {
+    match answer {
+        Ok(mut cursor) => {
+            add(text, &cursor.as_slice());
+            add_both(text, &mut cursor);
+            drop(cursor);
+        }
+        Err(error) => add(text, &error.kind()),
+    }
 }
 
 // What a cursor over the first three bytes of a buffer gives and shows, and what the buffer does
-// after it.
-fn text_of_cursor<'p, B: ParseBuf<'p> + Drop>(alloc: Global, buf: B) -> ParseResult<String> {
+// after it: what it reports and shows first, why there is no cursor over three more, whether it
+// shows any bytes after that, and what a cursor over none gives.
+fn text_of_cursor<'p, B: ParseBuf<'p> + Drop>(alloc: Global, buf: B) -> String {
     let (mut buf, mut text) = (buf, String::new(alloc));
-    let mut cursor = ParseBufCursor::new(alloc, &mut buf, 3)?;
-    let of_cursor = write_cursor(&mut text, &mut cursor);
-    drop(cursor);
-    of_cursor?;
-    write_first(&mut text, &mut buf)?;
-    write_after(&mut text, alloc, &mut buf)?;
-    Ok(text)
-}
-
-const LENT: &str = "Some([97, 98, 99]): External([97, 98, 99]) Some(3); External([99]) Some(1); \
-    Some(2) Some(100) Some(Eof) false Some([])";
-
-const OWN: &str = "None: Temporary([97, 98, 99]) Some(3); Temporary([99]) Some(1); \
-    Some(2) Some(100) Some(Eof) false Some([])";
-
-const OF_A_READER: &str = "None: Temporary([97, 98, 99]) Some(3); Temporary([99]) Some(1); \
-    None Some(100) Some(Eof) false Some([])";
-
-#[test]
-fn a_cursor_over_a_slice_borrows_it(rt: HostRuntime) -> Result<(), Fail> {
-    check_parsed_text(&rt, text_of_cursor(rt.alloc(), BYTES), LENT);
-    let mut bytes = BYTES;
-    ParseBufCursor::new(rt.alloc(), &mut bytes, 3)?;
-    check_same(&rt, "the bytes", bytes, b"de".as_slice());
-    Ok(())
-}
-
-#[test]
-fn a_cursor_over_bytes_that_do_not_last_keeps_its_own(rt: HostRuntime) -> Result<(), Fail> {
-    for &n in &[1, 3, 64] {
-        check_parsed_text(
-            &rt,
-            text_of_cursor(rt.alloc(), PieceBuf::new(BYTES, n, false)),
-            OWN,
-        );
-    }
-    for &n in &[1, 7, 8192] {
-        let reader = BufReader::with_capacity(rt.alloc(), n, BYTES)?;
-        check_parsed_text(&rt, text_of_cursor(rt.alloc(), reader), OF_A_READER);
-    }
-    Ok(())
-}
-
-#[test]
-fn a_cursor_borrows_what_one_borrowed_piece_has(rt: HostRuntime) {
-    for &(n, want) in &[(1, OWN), (3, LENT), (64, LENT)] {
-        check_parsed_text(
-            &rt,
-            text_of_cursor(rt.alloc(), PieceBuf::new(BYTES, n, true)),
-            want,
-        );
-    }
+    add_cursor(&mut text, ParseBufCursor::new(alloc, &mut buf, 3));
+    add(&mut text, &buf.remaining_hint());
+    add(&mut text, &first_of(&mut buf));
+    add_given(&mut text, ParseBufCursor::new(alloc, &mut buf, 3));
+    add(&mut text, &buf.chunk().is_ok());
+    add_given(&mut text, ParseBufCursor::new(alloc, &mut buf, 0));
+    text
 }
 
 // What a buffer shows, twice, and two bytes later.
-fn text_alone<'p, B: ParseBuf<'p> + Drop>(alloc: Global, buf: B) -> ParseResult<String> {
+fn text_alone<'p, B: ParseBuf<'p> + Drop>(alloc: Global, buf: B) -> String {
     let (mut buf, mut text) = (buf, String::new(alloc));
-    write_chunk(&mut text, &mut buf)?;
-    write_both(&mut text, &mut buf)?;
-    Ok(text)
+    add_chunk(&mut text, &mut buf);
+    add_both(&mut text, &mut buf);
+    text
+}
+
+fn text_of<'p, B: ParseBuf<'p> + Drop>(alloc: Global, buf: B, is_cut: bool) -> String {
+    if is_cut {
+        text_of_cursor(alloc, buf)
+    } else {
+        text_alone(alloc, buf)
+    }
+}
+
+// A buffer of the bytes.
+#[derive(Copy, Clone)]
+enum Buffer {
+    Slice,
+    // Pieces of so many bytes, and whether they last.
+    Pieces(usize, bool),
+    // A reader of so many bytes at a time.
+    Reader(usize),
+}
+
+// The text of a buffer.
+fn text_over(alloc: Global, buffer: Buffer, is_cut: bool) -> String {
+    match buffer {
+        Buffer::Slice => text_of(alloc, BYTES, is_cut),
+        Buffer::Pieces(most, lasts) => {
+            text_of(alloc, PieceBuf::new(BYTES, most.max(1), lasts), is_cut)
+        }
+        Buffer::Reader(capacity) => match BufReader::with_capacity(alloc, capacity, BYTES) {
+            Ok(reader) => text_of(alloc, reader, is_cut),
+            Err(_) => String::new(alloc),
+        },
+    }
+}
+
+// Asserts the texts of buffers.
+fn check_buffers(rt: &(impl AllocGlobal + Abort), is_cut: bool, rows: &[(Buffer, &str)]) {
+    for &(buffer, want) in rows {
+        check_text(rt, text_over(rt.alloc(), buffer, is_cut), want);
+    }
+}
+
+const LENT: &str = "Some([97, 98, 99]) Some(3) Ok(External([97, 98, 99])) \
+    Some(1) Ok(External([99])) Some(2) Some(100) Eof false Some([]) ";
+
+const OWN: &str = "None Some(3) Ok(Temporary([97, 98, 99])) Some(1) Ok(Temporary([99])) \
+    Some(2) Some(100) Eof false Some([]) ";
+
+const OF_A_READER: &str = "None Some(3) Ok(Temporary([97, 98, 99])) Some(1) Ok(Temporary([99])) \
+    None Some(100) Eof false Some([]) ";
+
+// What is left of the bytes after a cursor over three of them.
+fn left_after_three(alloc: Global) -> &'static [u8] {
+    let mut bytes = BYTES;
+    drop(ParseBufCursor::new(alloc, &mut bytes, 3));
+    bytes
 }
 
 #[test]
-fn buffers_report_what_they_have(rt: HostRuntime) -> Result<(), Fail> {
-    let want =
-        "External([97, 98, 99, 100, 101]) Some(5); External([97, 98, 99, 100, 101]) Some(5); \
-        External([99, 100, 101]) Some(3); ";
-    check_parsed_text(&rt, text_alone(rt.alloc(), BYTES), want);
-    let want = "Temporary([97, 98, 99, 100, 101]) None; Temporary([97, 98, 99, 100, 101]) None; \
-        Temporary([99, 100, 101]) None; ";
-    let reader = BufReader::with_capacity(rt.alloc(), 7, BYTES)?;
-    check_parsed_text(&rt, text_alone(rt.alloc(), reader), want);
-    let want = "External([97, 98, 99]) Some(5); External([97, 98, 99]) Some(5); \
-        External([99, 100, 101]) Some(3); ";
-    check_parsed_text(
-        &rt,
-        text_alone(rt.alloc(), PieceBuf::new(BYTES, 3, true)),
-        want,
-    );
-    let want = "Temporary([97, 98]) Some(5); Temporary([97, 98]) Some(5); \
-        Temporary([99, 100]) Some(3); ";
-    check_parsed_text(
-        &rt,
-        text_alone(rt.alloc(), PieceBuf::new(BYTES, 2, false)),
-        want,
-    );
-    Ok(())
+fn a_cursor_over_a_slice_borrows_it(rt: HostRuntime) {
+    check_buffers(&rt, true, &[(Buffer::Slice, LENT)]);
+    check_debug(&rt, left_after_three(rt.alloc()), "[100, 101]");
+}
+
+// Buffers whose bytes do not last.
+const PASSING: [(Buffer, &str); 6] = [
+    (Buffer::Pieces(1, false), OWN),
+    (Buffer::Pieces(3, false), OWN),
+    (Buffer::Pieces(64, false), OWN),
+    (Buffer::Reader(1), OF_A_READER),
+    (Buffer::Reader(7), OF_A_READER),
+    (Buffer::Reader(8192), OF_A_READER),
+];
+
+#[test]
+fn a_cursor_over_bytes_that_do_not_last_keeps_its_own(rt: HostRuntime) {
+    check_buffers(&rt, true, &PASSING);
+}
+
+const LASTING: [(Buffer, &str); 3] = [
+    (Buffer::Pieces(1, true), OWN),
+    (Buffer::Pieces(3, true), LENT),
+    (Buffer::Pieces(64, true), LENT),
+];
+
+#[test]
+fn a_cursor_borrows_what_one_borrowed_piece_has(rt: HostRuntime) {
+    check_buffers(&rt, true, &LASTING);
+}
+
+// What buffers report and show, twice, and two bytes later.
+const ALONE: [(Buffer, &str); 4] = [
+    (
+        Buffer::Slice,
+        "Some(5) Ok(External([97, 98, 99, 100, 101])) Some(5) \
+            Ok(External([97, 98, 99, 100, 101])) Some(3) Ok(External([99, 100, 101])) ",
+    ),
+    (
+        Buffer::Reader(7),
+        "None Ok(Temporary([97, 98, 99, 100, 101])) None Ok(Temporary([97, 98, 99, 100, 101])) \
+            None Ok(Temporary([99, 100, 101])) ",
+    ),
+    (
+        Buffer::Pieces(3, true),
+        "Some(5) Ok(External([97, 98, 99])) Some(5) Ok(External([97, 98, 99])) \
+            Some(3) Ok(External([99, 100, 101])) ",
+    ),
+    (
+        Buffer::Pieces(2, false),
+        "Some(5) Ok(Temporary([97, 98])) Some(5) Ok(Temporary([97, 98])) \
+            Some(3) Ok(Temporary([99, 100])) ",
+    ),
+];
+
+#[test]
+fn buffers_report_what_they_have(rt: HostRuntime) {
+    check_buffers(&rt, false, &ALONE);
 }

@@ -1,6 +1,6 @@
 //! The texts of errors, and lists that may be borrowed.
 
-use crate::tests::checks::check_text;
+use crate::tests::checks::{add, check_answer, check_text};
 use anyhow::anyhow;
 use perf_base::{CowSlice, ErrorKind, ParseError};
 use perf_test_inputs::errors::text_of_error;
@@ -9,7 +9,7 @@ use std::io;
 use std::process::Abort;
 
 fn check_error(rt: &(impl AllocGlobal + Abort), error: ParseError, want: &str) {
-    check_text(rt, text_of_error(rt.alloc(), &error), want);
+    check_answer(rt, text_of_error(rt.alloc(), &error), want);
 }
 
 const KINDS: [(ErrorKind, &str); 6] = [
@@ -83,25 +83,27 @@ fn an_input_error_is_an_early_end_or_external(rt: HostRuntime) {
     }
 }
 
-fn write_list(text: &mut String, list: CowSlice<'_, u16>) -> Result<(), AllocError> {
-    write!(text, "{:?}", list.as_slice())?;
-    write!(text, " {} {}; ", list.len(), list.is_empty())
+fn add_list(text: &mut String, list: CowSlice<'_, u16>) {
+    add(text, &(list.as_slice(), list.len(), list.is_empty()));
+    drop(list);
 }
 
-fn text_of_lists(alloc: Global, items: &[u16]) -> Result<String, AllocError> {
+fn text_of_lists(alloc: Global, items: &[u16]) -> String {
     let mut text = String::new(alloc);
-    write_list(&mut text, CowSlice::Borrowed(items))?;
-    write_list(&mut text, CowSlice::Owned(items.to_vec(alloc)?))?;
-    Ok(text)
+    add_list(&mut text, CowSlice::Borrowed(items));
+    if let Ok(items) = items.to_vec(alloc) {
+        add_list(&mut text, CowSlice::Owned(items));
+    }
+    text
 }
 
 #[test]
 fn a_list_reads_alike_borrowed_and_owned(rt: HostRuntime) {
-    let want = "[7, 8, 9] 3 false; [7, 8, 9] 3 false; ";
+    let want = "([7, 8, 9], 3, false) ([7, 8, 9], 3, false) ";
     check_text(&rt, text_of_lists(rt.alloc(), &[7, 8, 9]), want);
     check_text(
         &rt,
         text_of_lists(rt.alloc(), &[]),
-        "[] 0 true; [] 0 true; ",
+        "([], 0, true) ([], 0, true) ",
     );
 }

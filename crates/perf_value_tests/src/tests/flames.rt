@@ -1,7 +1,7 @@
 //! Folded stacks and flame graphs, computed by hand.
 
-use crate::tests::checks::check_same;
-use perf_flame::error::{FlameError, FoldedError};
+use crate::tests::checks::{check_bytes, check_debug};
+use perf_flame::error::FoldedError;
 use perf_flame::flame::flame;
 use perf_flame::folded::Folded;
 use perf_flame::laws::{apart_law, escaped_law, inside_law, merging_law, sums_law, total_law};
@@ -9,7 +9,6 @@ use perf_flame::reading::read_lines;
 use perf_flame::stack::Stack;
 use std::alloc::{AllocError, Global};
 use std::process::Abort;
-use std::test::Fail;
 
 // Six lines of four stacks: a command `sh` alone and in two functions, one like it, and one whose name
 // opens a tag.
@@ -51,19 +50,22 @@ const NARROW: &[u8] =
 </svg>
 ";
 
-// A text that is refused, with the number of its first bad line.
-const BAD: [(&[u8], usize); 6] = [
-    (b"sh", 1),
-    (b"sh 1\n\n", 2),
-    (b"sh +1\n", 1),
-    (b"sh 1\nsh 1 \nsh 2", 2),
-    (b"sh 18446744073709551616", 1),
-    (b"sh 18446744073709551615\nsh x1", 2),
+// Texts that are refused, each for its first bad line.
+const BAD: [(&[u8], &str); 6] = [
+    (b"sh", "Some(BadLine(1))"),
+    (b"sh 1\n\n", "Some(BadLine(2))"),
+    (b"sh +1\n", "Some(BadLine(1))"),
+    (b"sh 1\nsh 1 \nsh 2", "Some(BadLine(2))"),
+    (b"sh 18446744073709551616", "Some(BadLine(1))"),
+    (b"sh 18446744073709551615\nsh x1", "Some(BadLine(2))"),
 ];
 
-// Asserts that bytes are the expected ones, and drops them.
-fn check_bytes(rt: &impl Abort, bytes: Vec<u8>, want: &[u8]) {
-    assert_eq!(rt; bytes.as_slice(), want);
+// Asserts bytes that need memory.
+fn check_answer(rt: &impl Abort, answer: Option<Vec<u8>>, want: &[u8]) {
+    match answer {
+        Some(bytes) => check_bytes(rt, &bytes, want),
+        None => panic!(rt; "no bytes"),
+    }
 }
 
 fn folded(alloc: Global, text: &[u8]) -> Result<Folded, FoldedError> {
@@ -77,70 +79,59 @@ fn folded(alloc: Global, text: &[u8]) -> Result<Folded, FoldedError> {
     }
 }
 
-// Why lines are refused, or `None` if they are not.
-fn fault_of(alloc: Global, text: &[u8]) -> Option<FoldedError> {
+fn drawn(alloc: Global, text: &[u8], inverted: bool) -> Option<Vec<u8>> {
     match folded(alloc, text) {
         Ok(sums) => {
+            let graph = flame(alloc, &sums, inverted);
             drop(sums);
-            None
+            graph.ok()
         }
-        Err(error) => Some(error),
+        Err(_) => None,
     }
 }
 
-fn drawn(alloc: Global, text: &[u8], inverted: bool) -> Result<Vec<u8>, Fail> {
-    let sums = folded(alloc, text)?;
-    let graph = flame(alloc, &sums, inverted);
-    drop(sums);
-    Ok(graph?)
-}
-
-// Asserts the text and the total of sums.
-fn check_sums(rt: &impl Abort, sums: &Folded, text: &[u8], total: Option<u64>) -> Result<(), Fail> {
-    check_bytes(rt, sums.text()?, text);
-    check_same(rt, "the total", sums.total(), total);
-    Ok(())
+// Asserts the text of the sums of lines, and their total with why they are not drawn.
+fn check_sums(rt: &(impl AllocGlobal + Abort), lines: &[u8], text: &[u8], want: &str) {
+    match folded(rt.alloc(), lines) {
+        Ok(sums) => {
+            let graph = flame(rt.alloc(), &sums, false);
+            check_answer(rt, sums.text().ok(), text);
+            check_debug(rt, (sums.total(), graph.err()), want);
+            drop(sums);
+        }
+        Err(_) => panic!(rt; "no sums"),
+    }
 }
 
 #[test]
-fn lines_are_summed(rt: HostRuntime) -> Result<(), Fail> {
-    let sums = folded(rt.alloc(), LINES)?;
-    let is_checked = check_sums(&rt, &sums, SUMS, Some(20));
-    drop(sums);
-    is_checked
+fn lines_are_summed(rt: HostRuntime) {
+    check_sums(&rt, LINES, SUMS, "(Some(20), None)");
 }
 
 // Three lines whose counts wrap for one stack, and together.
 const WRAPPING: &[u8] = b"sh 18446744073709551615\nsh 3\nls 18446744073709551615\n";
 
 #[test]
-fn counts_wrap(rt: HostRuntime) -> Result<(), Fail> {
-    let sums = folded(rt.alloc(), WRAPPING)?;
-    let want = b"ls 18446744073709551615\nsh 2\n".as_slice();
-    let is_checked = check_sums(&rt, &sums, want, None);
-    let graph = flame(rt.alloc(), &sums, false);
-    drop(sums);
-    check_same(&rt, "the error", graph.err(), Some(FlameError::TooMany));
-    is_checked
+fn counts_wrap(rt: HostRuntime) {
+    let want = b"ls 18446744073709551615\nsh 2\n";
+    check_sums(&rt, WRAPPING, want, "(None, Some(TooMany))");
 }
 
 #[test]
 fn bad_lines_are_named(rt: HostRuntime) {
-    for (text, line) in BAD {
-        let fault = fault_of(rt.alloc(), text);
-        check_same(&rt, "the error", fault, Some(FoldedError::BadLine(line)));
+    for &(text, want) in &BAD {
+        check_debug(&rt, folded(rt.alloc(), text).err(), want);
     }
 }
 
 #[test]
-fn lines_before_a_bad_one_are_added(rt: HostRuntime) -> Result<(), Fail> {
+fn lines_before_a_bad_one_are_added(rt: HostRuntime) {
     let mut sums = Folded::new(rt.alloc());
     let fault = read_lines(&mut sums, b"sh 1\nsh\nsh 4\n").err();
     let text = sums.text();
     drop(sums);
-    check_same(&rt, "the error", fault, Some(FoldedError::BadLine(2)));
-    check_bytes(&rt, text?, b"sh 1\n".as_slice());
-    Ok(())
+    check_debug(&rt, fault, "Some(BadLine(2))");
+    check_answer(&rt, text.ok(), b"sh 1\n");
 }
 
 // A command that replaces an earlier one, and three functions.
@@ -153,33 +144,35 @@ fn cleaned(stack: &mut Stack) -> Result<(), AllocError> {
 }
 
 #[test]
-fn stacks_are_cleaned(rt: HostRuntime) -> Result<(), Fail> {
+fn stacks_are_cleaned(rt: HostRuntime) -> Result<(), AllocError> {
     let mut stack = Stack::new(rt.alloc());
-    cleaned(&mut stack)?;
-    let want = b"s_h_;operator new(int);;_\xc3\xa9_".as_slice();
-    check_same(&rt, "the stack", stack.text(), want);
-    Ok(())
+    let is_cleaned = cleaned(&mut stack);
+    check_bytes(&rt, stack.text(), b"s_h_;operator new(int);;_\xc3\xa9_");
+    is_cleaned
 }
 
 #[test]
-fn stacks_are_drawn(rt: HostRuntime) -> Result<(), Fail> {
-    check_bytes(&rt, drawn(rt.alloc(), LINES, false)?, GRAPH);
-    check_bytes(&rt, drawn(rt.alloc(), b"sh;read 1", true)?, INVERTED);
-    Ok(())
+fn stacks_are_drawn(rt: HostRuntime) {
+    check_answer(&rt, drawn(rt.alloc(), LINES, false), GRAPH);
+    check_answer(&rt, drawn(rt.alloc(), b"sh;read 1", true), INVERTED);
+}
+
+// How many lines there are.
+fn count_lines(graph: &[u8]) -> usize {
+    let mut count = 0usize;
+    for byte in graph {
+        count = count.saturating_add(usize::from(*byte == b'\n'));
+    }
+    count
 }
 
 #[test]
-fn narrow_boxes_are_left_out(rt: HostRuntime) -> Result<(), Fail> {
-    check_bytes(
-        &rt,
-        drawn(rt.alloc(), b"sh 11999\n\xe9 1\n", false)?,
-        NARROW,
-    );
-    let text = drawn(rt.alloc(), b"sh 12000\n\xe9 1\n", false)?;
-    let count = text.iter().filter(|byte| **byte == b'\n').count();
-    drop(text);
-    check_same(&rt, "the boxes", count, 4);
-    Ok(())
+fn narrow_boxes_are_left_out(rt: HostRuntime) {
+    check_answer(&rt, drawn(rt.alloc(), b"sh 11999\n\xe9 1\n", false), NARROW);
+    match drawn(rt.alloc(), b"sh 12000\n\xe9 1\n", false) {
+        Some(graph) => check_debug(&rt, count_lines(&graph), "4"),
+        None => panic!(rt; "no graph"),
+    }
 }
 
 #[test]

@@ -2,6 +2,7 @@
 
 ghost use Rattle.std.specs.Prelude.{◌<◌};
 
+use crate::tests::checks::check_debug;
 use crate::tests::searching::{name_back, place_back};
 use perf_history::{Change, Comm, Fork, History, Identity, Map, Mode, Symbol};
 use std::alloc::{AllocError, Global};
@@ -151,6 +152,5 @@ fn first_difference(alloc: Global, count: u64) -> Result<Option<u64>, AllocError
 
 #[test]
 fn histories_agree(rt: HostRuntime) {
-    let difference = first_difference(rt.alloc(), HISTORIES);
-    assert!(rt; difference == Ok(None), "{difference:?}");
+    check_debug(&rt, first_difference(rt.alloc(), HISTORIES), "Ok(None)");
 }

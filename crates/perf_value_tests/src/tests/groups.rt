@@ -1,6 +1,6 @@
 //! Reads of counters and groups of them.
 
-use crate::tests::checks::{check_answers, check_debug, check_parsed_text};
+use crate::tests::checks::{add, check_debug, check_text};
 use bitflags::Flags;
 use perf_base::{CowSlice, ParseResult};
 use perf_counters::group_laws::{EntryCall, entry_call, entry_calls, through_a_group};
@@ -8,7 +8,9 @@ use perf_counters::{GroupEntry, GroupIter, ReadGroup, ReadValue, TryFromGroupErr
 use perf_types::Read;
 use perf_words::ReadFormat;
 use std::alloc::{AllocError, Global};
+use std::iter::Copied;
 use std::process::Abort;
+use std::slice::Iter;
 
 // The values of up to six entries. The id of an entry is 100 more, and its lost samples are 200
 // more.
@@ -71,61 +73,80 @@ fn is_entry(format: u64, entry: Option<GroupEntry>, value: Option<u64>) -> bool 
     }
 }
 
+// The same call of a list's iterator.
+fn list_call(list: &mut Copied<Iter<'_, u64>>, call: EntryCall) -> Option<u64> {
+    match call {
+        EntryCall::Next => list.next(),
+        EntryCall::NextBack => list.next_back(),
+        EntryCall::Nth(place) => list.nth(place),
+        EntryCall::NthBack(place) => list.nth_back(place),
+    }
+}
+
 // Whether four calls, by their indices in `CALLS`, return what those of a list's iterator do.
-fn goes_as_a_list(entries: GroupIter<'_>, format: u64, values: &[u64], calls: [usize; 4]) -> bool {
+fn goes_as_a_list(entries: GroupIter<'_>, format: u64, values: &[u64], code: usize) -> bool {
     let mut entries = entries;
     let mut list = values.iter().copied();
-    for place in calls {
+    for place in [code, code / 8, code / 64, code / 512] {
         let call = CALLS[place % 8];
-        let value = match call {
-            EntryCall::Next => list.next(),
-            EntryCall::NextBack => list.next_back(),
-            EntryCall::Nth(place) => list.nth(place),
-            EntryCall::NthBack(place) => list.nth_back(place),
-        };
-        if !is_entry(format, entry_call(&mut entries, call), value) || entries.len() != list.len() {
+        let entry = entry_call(&mut entries, call);
+        let value = list_call(&mut list, call);
+        if !is_entry(format, entry, value) || entries.len() != list.len() {
             return false;
         }
     }
     true
 }
 
-// Asserts that iterating over the entries of these numbers is like iterating over a list of their
-// values, in any mixture of four calls.
-fn check_mixtures(rt: &impl Abort, format: ReadFormat, numbers: CowSlice<'_, u64>, values: &[u64]) {
-    assert_eq!(rt; numbers.len() % format.element_len(), 0);
-    let group = ReadGroup::from_parts(format, 0, 0, numbers);
-    assert_eq!(rt; group.len(), values.len());
-    let bits = format.bits();
+// Whether any mixture of four calls does.
+fn go_as_a_list(group: &ReadGroup<'_>, format: u64, values: &[u64]) -> bool {
     for code in 0..4096usize {
-        let calls = [code, code / 8, code / 64, code / 512];
-        assert!(rt; goes_as_a_list(group.entries(), bits, values, calls));
+        if !goes_as_a_list(group.entries(), format, values, code) {
+            return false;
+        }
+    }
+    group.len() == values.len()
+}
+
+// Whether iterating over the entries of these numbers is like iterating over a list of their values.
+fn is_as_a_list(format: ReadFormat, numbers: CowSlice<'_, u64>, values: &[u64]) -> bool {
+    if numbers.len() % format.element_len() != 0 {
+        return false;
+    }
+    let group = ReadGroup::from_parts(format, 0, 0, numbers);
+    let is_as_a_list = go_as_a_list(&group, format.bits(), values);
+    drop(group);
+    is_as_a_list
+}
+
+// The same of borrowed and of owned numbers.
+fn are_as_lists(alloc: Global, format: ReadFormat, numbers: &[u64], values: &[u64]) -> bool {
+    match Vec::from_slice(alloc, numbers) {
+        Ok(owned) => {
+            is_as_a_list(format, CowSlice::Borrowed(numbers), values)
+                && is_as_a_list(format, CowSlice::Owned(owned), values)
+        }
+        Err(_) => false,
     }
 }
 
-// Asserts it for borrowed and for owned numbers.
-fn check_group(
-    rt: &(impl AllocGlobal + Abort),
-    format: ReadFormat,
-    numbers: &[u64],
-    values: &[u64],
-) {
-    check_mixtures(rt, format, CowSlice::Borrowed(numbers), values);
-    match Vec::from_slice(rt.alloc(), numbers) {
-        Ok(numbers) => check_mixtures(rt, format, CowSlice::Owned(numbers), values),
-        Err(_) => panic!(rt; "no memory"),
+// Of a read format and the numbers under it, the first count of entries that are not like a list.
+fn wrong_count(alloc: Global, bits: u64, numbers: &[u64]) -> Option<usize> {
+    let format = ReadFormat::from_bits_retain(bits);
+    for count in 0..7usize {
+        let len = count.saturating_mul(format.element_len());
+        let first = &numbers[..len.min(numbers.len())];
+        if !are_as_lists(alloc, format, first, &VALUES[..count]) {
+            return Some(count);
+        }
     }
+    None
 }
 
 #[test]
 fn mixtures_of_calls(rt: HostRuntime) {
     for &(bits, numbers) in &GROUPS {
-        let format = ReadFormat::from_bits_retain(bits);
-        for count in 0..7usize {
-            let len = count.saturating_mul(format.element_len());
-            let first = &numbers[..len.min(numbers.len())];
-            check_group(&rt, format, first, &VALUES[..count]);
-        }
+        check_debug(&rt, wrong_count(rt.alloc(), bits, numbers), "None");
     }
 }
 
@@ -140,24 +161,33 @@ fn five() -> ReadGroup<'static> {
 
 // A copy of a group's entries while these advance: how many are left of both, and what the copy
 // returns from both ends.
-fn text_of_copy(alloc: Global, group: &ReadGroup<'_>) -> ParseResult<String> {
+fn text_of_copy(alloc: Global, group: &ReadGroup<'_>) -> String {
+    let mut text = String::new(alloc);
     let mut entries = group.entries();
     let _ = entries.nth(1);
-    let mut copy = entries.clone()?;
-    let _ = entries.nth(2);
-    let left = (entries.len(), copy.size_hint());
+    if let Ok(copy) = entries.clone() {
+        let _ = entries.nth(2);
+        add(&mut text, &entries.len());
+        add_answers(&mut text, alloc, copy);
+    }
+    text
+}
+
+// Adds how many entries are left, and the results of three calls.
+fn add_answers(text: &mut String, alloc: Global, entries: GroupIter<'_>) {
+    let mut entries = entries;
+    add(text, &entries.size_hint());
     let calls = [EntryCall::NthBack(1), EntryCall::Next, EntryCall::Next];
-    let answers = entry_calls(alloc, &mut copy, &calls)?;
-    Ok(format!(in alloc; "{left:?} {answers:?}")?)
+    add(text, &entry_calls(alloc, &mut entries, &calls));
 }
 
 #[test]
 fn a_copy_of_entries_goes_on_alone(rt: HostRuntime) {
-    check_parsed_text(
+    check_text(
         &rt,
         text_of_copy(rt.alloc(), &five()),
-        "(0, (3, Some(3))) [Some(GroupEntry { value: 4, id: None, lost: None }), \
-            Some(GroupEntry { value: 3, id: None, lost: None }), None]",
+        "0 (3, Some(3)) Ok([Some(GroupEntry { value: 4, id: None, lost: None }), \
+            Some(GroupEntry { value: 3, id: None, lost: None }), None]) ",
     );
 }
 
@@ -201,14 +231,15 @@ pub fn single_with_id() -> ReadValue {
 
 #[test]
 fn single_reads(rt: HostRuntime) {
-    let want = [Some(3), Some(4), Some(5), Some(6), Some(7)];
-    check_answers(&rt, &numbers_of_read(&single()), &want);
-    let want = [Some(3), None, None, Some(6), None];
-    check_answers(&rt, &numbers_of_read(&single_with_id()), &want);
+    let numbers = [
+        numbers_of_read(&single()),
+        numbers_of_read(&single_with_id()),
+    ];
     check_debug(
         &rt,
-        single_with_id(),
-        "ReadValue { value: 3, time_enabled: None, time_running: None, id: Some(6), lost: None }",
+        (numbers, single_with_id()),
+        "([[Some(3), Some(4), Some(5), Some(6), Some(7)], [Some(3), None, None, Some(6), None]], \
+            ReadValue { value: 3, time_enabled: None, time_running: None, id: Some(6), lost: None })",
     );
 }
 
@@ -275,20 +306,27 @@ fn read_of(group: &ReadGroup<'_>, entries: &ReadGroup<'_>) -> Option<[Option<u64
     }
 }
 
-#[test]
-fn entry_of_another_group(rt: HostRuntime) {
+// Those of a group without ids and one with them: of the second and the first, of the second alone, and of
+// the first and the second.
+fn text_of_reads(alloc: Global) -> String {
+    let mut text = String::new(alloc);
     let values = ReadGroup::from_parts(ReadFormat::GROUP, 0, 0, CowSlice::Borrowed(&[5]));
     let with_ids = ReadFormat::from_bits_retain(0x0c);
     let others = ReadGroup::from_parts(with_ids, 1, 2, CowSlice::Borrowed(&[8, 9]));
-    let reads = [
-        read_of(&others, &values),
-        read_of(&others, &others),
-        read_of(&values, &others),
-    ];
-    check_debug(
+    add(&mut text, &read_of(&others, &values));
+    add(&mut text, &read_of(&others, &others));
+    add(&mut text, &read_of(&values, &others));
+    drop(values);
+    drop(others);
+    text
+}
+
+#[test]
+fn entry_of_another_group(rt: HostRuntime) {
+    check_text(
         &rt,
-        reads,
-        "[Some([Some(5), None, None, Some(0), None]), \
-            Some([Some(8), None, None, Some(9), None]), Some([Some(8), None, None, None, None])]",
+        text_of_reads(rt.alloc()),
+        "Some([Some(5), None, None, Some(0), None]) Some([Some(8), None, None, Some(9), None]) \
+            Some([Some(8), None, None, None, None]) ",
     );
 }

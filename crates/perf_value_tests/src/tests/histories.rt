@@ -1,10 +1,10 @@
 //! Names and places as perf finds them: `thread__fork`, `map__new` and
 //! `machine__process_ksymbol` of its sources.
 
+use crate::tests::checks::check_debug;
 use crate::tests::using::{name_after_two, place_after_one};
 use perf_history::{
-    Change, Comm, File, Fork, History, Identity, Inode, Map, Mode, Name, Place, Symbol,
-    keeps_address,
+    Change, Comm, File, Fork, History, Identity, Inode, Map, Mode, Name, Symbol, keeps_address,
 };
 use std::alloc::{AllocError, Global};
 use std::process::Abort;
@@ -116,7 +116,7 @@ fn check_after(
     places: &[PlaceRow],
 ) {
     let wrong = wrong_after(rt.alloc(), steps, names, places);
-    assert!(rt; wrong == Ok((None, None)), "{wrong:?}");
+    check_debug(rt, wrong, "Ok((None, None))");
 }
 
 const NAMING: [Step; 9] = [
@@ -269,25 +269,22 @@ const HEAP: Map<'static> = Map {
 };
 
 #[test]
-fn a_thread_of_another(rt: HostRuntime) -> Result<(), AllocError> {
+fn a_thread_of_another(rt: HostRuntime) {
     let named = change_of(Step::Comm(7, b"sh"));
     let made = change_of(Step::Thread(7, 8));
-    let name = name_after_two(rt.alloc(), named, made, 8)?;
-    assert!(rt; name == Name::Given(b"sh"));
-    Ok(())
+    let name = name_after_two(rt.alloc(), named, made, 8);
+    check_debug(&rt, name, "Ok(Given([115, 104]))");
 }
 
 #[test]
-fn a_whole_place(rt: HostRuntime) -> Result<(), AllocError> {
-    let place = place_after_one(rt.alloc(), Change::Map(HEAP), 7, 0x1fff)?;
-    let expected = Place {
-        file: File::Named(b"[heap]"),
-        offset: 0x1fff,
-        identity: INODE,
-        executable: false,
-    };
-    assert!(rt; place == Some(expected));
-    Ok(())
+fn a_whole_place(rt: HostRuntime) {
+    check_debug(
+        &rt,
+        place_after_one(rt.alloc(), Change::Map(HEAP), 7, 0x1fff),
+        "Ok(Some(Place { file: Named([91, 104, 101, 97, 112, 93]), offset: 8191, \
+            identity: Inode(Inode { major: 8, minor: 1, number: 1234, generation: 5 }), \
+            executable: false }))",
+    );
 }
 
 const MODES: [(u16, Mode); 8] = [
@@ -301,11 +298,19 @@ const MODES: [(u16, Mode); 8] = [
     (0xfff9, Mode::Kernel),
 ];
 
+// The first of these numbers with another mode.
+fn wrong_mode() -> Option<u16> {
+    for (misc, mode) in &MODES {
+        if Mode::of_misc(*misc) != *mode {
+            return Some(*misc);
+        }
+    }
+    None
+}
+
 #[test]
 fn modes(rt: HostRuntime) {
-    for (misc, mode) in &MODES {
-        assert!(rt; Mode::of_misc(*misc) == *mode, "{misc}");
-    }
+    check_debug(&rt, wrong_mode(), "None");
 }
 
 // Names under which memory is mapped, and whether that is no file's.
@@ -329,9 +334,17 @@ const FILES: [(&[u8], bool); 17] = [
     (b"", false),
 ];
 
+// The first of these names that keeps its address, or does not, against this table.
+fn wrong_file() -> Option<&'static [u8]> {
+    for (name, keeps) in &FILES {
+        if keeps_address(name) != *keeps {
+            return Some(*name);
+        }
+    }
+    None
+}
+
 #[test]
 fn names_without_a_file(rt: HostRuntime) {
-    for (name, keeps) in &FILES {
-        assert!(rt; keeps_address(name) == *keeps, "{name:?}");
-    }
+    check_debug(&rt, wrong_file(), "None");
 }

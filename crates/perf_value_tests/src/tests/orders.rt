@@ -1,8 +1,8 @@
 //! Byte orders, those of a user's own too.
 
-use crate::tests::checks::check_same;
+use crate::tests::checks::check_debug;
+use perf_base::ParseConfig;
 use perf_base::endian::{Big, Dynamic, Endian, Little, Native};
-use perf_base::{ErrorKind, ParseConfig};
 use perf_test_inputs::orders::{Counting, Words};
 use std::cell::Cell;
 use std::test::Fail;
@@ -15,7 +15,7 @@ fn a_refused_duplicate_refuses_the_configuration(rt: HostRuntime) {
         Ok(_) => None,
         Err(error) => Some(error.kind()),
     };
-    check_same(&rt, "the kind", kind, Some(ErrorKind::OutOfMemory));
+    check_debug(&rt, kind, "Some(OutOfMemory)");
 }
 
 // What a byte order makes of the bytes 1 to 8.
@@ -49,7 +49,7 @@ fn orders_convert_as_they_are_named(rt: HostRuntime) {
         HIGHEST_FIRST,
         (0x0201, 0x02010403, 0x0201040306050807),
     ];
-    check_same(&rt, "the orders", actual, want);
+    check_debug(&rt, actual == want, "true");
 }
 
 #[test]
@@ -65,8 +65,11 @@ fn the_little_orders_are_native(rt: HostRuntime) {
         Words { added: 0 }.is_native(),
         Counting::single(&calls).is_native(),
     ];
-    let want = [true, true, true, false, false, false, false, false];
-    check_same(&rt, "which are native", actual, want);
+    check_debug(
+        &rt,
+        actual,
+        "[true, true, true, false, false, false, false, false]",
+    );
 }
 
 #[test]
@@ -74,6 +77,6 @@ fn a_configuration_keeps_its_order(rt: HostRuntime) -> Result<(), Fail> {
     let config = ParseConfig::<Native>::default().with_endian(Dynamic::Big);
     let second = config.duplicate()?;
     let orders = [*config.endian(), *second.endian()];
-    check_same(&rt, "the orders", orders, [Dynamic::Big, Dynamic::Big]);
+    check_debug(&rt, orders, "[Big, Big]");
     Ok(())
 }

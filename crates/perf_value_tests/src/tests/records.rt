@@ -1,11 +1,11 @@
 //! Records: cut lists, equality, defaults, texts, and the results of calls of plain ones.
 
-use crate::tests::checks::{check_debug, check_numbers};
+use crate::tests::checks::{add, check_debug, check_numbers, check_text};
 use bitflags::Flags;
 use perf_base::endian::Dynamic;
 use perf_base::laws::{dynamic_by_number, error_kind_by_number};
 use perf_base::sys::{perf_event_attr, perf_event_header};
-use perf_base::{CowSlice, ErrorKind, ParseResult};
+use perf_base::{CowSlice, ErrorKind};
 use perf_sample_types::sample_id::SampleId;
 use perf_types::laws::namespace_entry_by_numbers;
 use perf_types::{
@@ -17,67 +17,79 @@ use perf_words::named::BpfEventType;
 use perf_words::{BranchType, ReadFormat};
 use std::alloc::{AllocError, Global};
 use std::hash::{BuildHasherDefault, FoldHasher};
-use std::process::Abort;
 
-// The parts of a clone of a list that is split at an index, or after its last item if it is
+// Adds the parts of a clone of a list that is split at an index, or after its last item if it is
 // shorter.
-fn parts_of<'a>(
-    alloc: Global,
-    items: &CowSlice<'a, u8>,
-    at: usize,
-) -> ParseResult<(CowSlice<'a, u8>, CowSlice<'a, u8>)> {
-    let items = items.clone(alloc)?;
+fn add_parts(text: &mut String, alloc: Global, items: &CowSlice<'_, u8>, at: usize) {
+    let Ok(items) = items.clone(alloc) else {
+        return;
+    };
     let at = at.min(items.len());
-    items.split_at(alloc, at)
+    match items.split_at(alloc, at) {
+        Ok((first, second)) => {
+            add(text, &first);
+            add(text, &second);
+            drop(first);
+            drop(second);
+        }
+        Err(error) => add(text, &error),
+    }
 }
 
-// Asserts what is left of a list that is cut to four items, and then to five, and its parts if it
-// is split at some indices.
-fn check_cut(
-    rt: &(impl AllocGlobal + Abort),
-    items: CowSlice<'_, u8>,
-    left: &str,
-    parts: [(usize, &str); 3],
-) {
-    let mut items = items;
+// What is left of a list that is cut to four items, and then to five, and its parts if it is split
+// at three indices.
+fn text_of_cuts(alloc: Global, items: CowSlice<'_, u8>) -> String {
+    let (mut text, mut items) = (String::new(alloc), items);
     items.truncate(4);
-    check_debug(rt, &items, left);
+    add(&mut text, &items);
     items.truncate(5);
-    check_debug(rt, &items, left);
-    for (at, want) in parts {
-        check_debug(rt, parts_of(rt.alloc(), &items, at), want);
+    add(&mut text, &items);
+    for at in [0, 3, 4] {
+        add_parts(&mut text, alloc, &items, at);
     }
+    drop(items);
+    text
+}
+
+// Those of the first six numbers, all lists of this form.
+macro_rules! cuts {
+    ($form:literal) => {
+        concat!(
+            $form,
+            "([0, 1, 2, 3]) ",
+            $form,
+            "([0, 1, 2, 3]) ",
+            $form,
+            "([]) ",
+            $form,
+            "([0, 1, 2, 3]) ",
+            $form,
+            "([0, 1, 2]) ",
+            $form,
+            "([3]) ",
+            $form,
+            "([0, 1, 2, 3]) ",
+            $form,
+            "([]) "
+        )
+    };
 }
 
 const SIX: [u8; 6] = [0, 1, 2, 3, 4, 5];
 
 #[test]
 fn borrowed_items_are_cut_and_split(rt: HostRuntime) {
-    check_cut(
-        &rt,
-        CowSlice::Borrowed(&SIX),
-        "Borrowed([0, 1, 2, 3])",
-        [
-            (0, "Ok((Borrowed([]), Borrowed([0, 1, 2, 3])))"),
-            (3, "Ok((Borrowed([0, 1, 2]), Borrowed([3])))"),
-            (4, "Ok((Borrowed([0, 1, 2, 3]), Borrowed([])))"),
-        ],
-    );
+    let text = text_of_cuts(rt.alloc(), CowSlice::Borrowed(&SIX));
+    check_text(&rt, text, cuts!("Borrowed"));
 }
 
 #[test]
 fn owned_items_are_cut_and_split(rt: HostRuntime) {
     match Vec::from_slice(rt.alloc(), &SIX) {
-        Ok(items) => check_cut(
-            &rt,
-            CowSlice::Owned(items),
-            "Owned([0, 1, 2, 3])",
-            [
-                (0, "Ok((Owned([]), Owned([0, 1, 2, 3])))"),
-                (3, "Ok((Owned([0, 1, 2]), Owned([3])))"),
-                (4, "Ok((Owned([0, 1, 2, 3]), Owned([])))"),
-            ],
-        ),
+        Ok(items) => {
+            let text = text_of_cuts(rt.alloc(), CowSlice::Owned(items));
+            check_text(&rt, text, cuts!("Owned"));
+        }
         Err(_) => panic!(rt; "no memory"),
     }
 }

@@ -1,8 +1,10 @@
 //! What the frames of a sample are named.
 
+use crate::tests::checks::check_bytes;
 use perf_history::{File, Identity, Mode, Name, Place};
 use perf_stacks::{Frames, Stacks};
-use std::test::Fail;
+use std::alloc::AllocError;
+use std::process::Abort;
 
 // A command that would open a tag and end a frame, and a frame of each kind.
 const NAMED: &[u8] =
@@ -17,9 +19,8 @@ fn place<'p>(file: File<'p>, offset: u64) -> Option<Place<'p>> {
     })
 }
 
-#[test]
-fn frames_have_names(rt: HostRuntime) -> Result<(), Fail> {
-    let mut stacks = Stacks::new(rt.alloc());
+// Pushes a frame of each kind.
+fn push_all(stacks: &mut Stacks) -> Result<(), AllocError> {
     let file = place(File::Named(b"/usr/bin/ls"), 0x1000);
     let made = place(File::PerfMap(7), 16);
     stacks.start(Name::Given(b"<script>;]]>\x1b"))?;
@@ -33,17 +34,28 @@ fn frames_have_names(rt: HostRuntime) -> Result<(), Fail> {
     )?;
     stacks.push(Frames::Offsets, Mode::User, 16, made)?;
     stacks.push(Frames::Offsets, Mode::Other, 0, None)?;
-    stacks.push(Frames::Files, Mode::Kernel, 0xffffffff81000000, file)?;
-    assert_eq!(rt; stacks.text(), NAMED);
-    Ok(())
+    stacks.push(Frames::Files, Mode::Kernel, 0xffffffff81000000, file)
 }
 
 #[test]
-fn threads_without_a_name_have_a_number(rt: HostRuntime) -> Result<(), Fail> {
+fn frames_have_names(rt: HostRuntime) -> Result<(), AllocError> {
     let mut stacks = Stacks::new(rt.alloc());
-    stacks.start(Name::Number(5))?;
-    assert_eq!(rt; stacks.text(), b":5".as_slice());
-    stacks.start(Name::Swapper)?;
-    assert_eq!(rt; stacks.text(), b"swapper".as_slice());
-    Ok(())
+    let pushed = push_all(&mut stacks);
+    check_bytes(&rt, stacks.text(), NAMED);
+    pushed
+}
+
+// Asserts what a thread of that name is called.
+fn check_name(rt: &impl Abort, stacks: &mut Stacks, name: Name<'_>, want: &[u8]) {
+    match stacks.start(name) {
+        Ok(()) => check_bytes(rt, stacks.text(), want),
+        Err(_) => panic!(rt; "no memory"),
+    }
+}
+
+#[test]
+fn threads_without_a_name_have_a_number(rt: HostRuntime) {
+    let mut stacks = Stacks::new(rt.alloc());
+    check_name(&rt, &mut stacks, Name::Number(5), b":5");
+    check_name(&rt, &mut stacks, Name::Swapper, b"swapper");
 }

@@ -1,6 +1,6 @@
 //! Flags, named numbers, branch entries and data sources.
 
-use crate::tests::checks::{check_answers, check_debug, check_numbers};
+use crate::tests::checks::{check_debug, check_numbers};
 use bitflags::Flags;
 use perf_words::{
     AuxFlags, AuxPmuFormatType, BranchEntry, BranchType, DataSource, KSymbolFlags, MemBlk, MemDtlb,
@@ -144,16 +144,11 @@ fn bits_named(name: &str) -> Option<u64> {
 #[test]
 fn names(rt: HostRuntime) {
     let (name, level) = MemLevelNum::names()[8];
-    let numbers = [
-        bits_named("CODE_PAGE_SIZE"),
-        bits_named("PERF_SAMPLE_IP"),
-        Some(SampleFlags::all().bits()),
-        Some(u64::from(level.get())),
-    ];
-    let code_page_size = Some(SampleFlags::CODE_PAGE_SIZE.bits());
-    let want = [code_page_size, None, Some(0x1ff_ffff), Some(15)];
-    check_answers(&rt, &numbers, &want);
-    check_debug(&rt, name, "\"NA\"");
+    let named = bits_named("CODE_PAGE_SIZE") == Some(SampleFlags::CODE_PAGE_SIZE.bits());
+    let unnamed = bits_named("PERF_SAMPLE_IP");
+    let numbers = [SampleFlags::all().bits(), u64::from(level.get())];
+    let want = "(true, None, [33554431, 15], \"NA\")";
+    check_debug(&rt, (named, unnamed, numbers, name), want);
 }
 
 #[test]
