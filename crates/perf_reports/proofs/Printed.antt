@@ -1,5 +1,6 @@
 -- What is written in steps.
-use Rattle.std.proofs.Common.{◌≡◌, ℕ, List, [], ◌++◌, ◌∙◌, Option, Some, None, length, take, drop, refl, sym, ap, append_assoc, append-nil}
+use Rattle.std.proofs.Common.{◌≡◌, ℕ, ◌≤◌, Bool, true, false, List, [], ◌++◌, ◌∙◌, Option, Some, None, Result, Ok, Err, OnOk, is_ok, length, take, drop, refl, sym, ap, subst, arith, append_assoc, append-nil}
+use Rattle.std.specs.Prelude.{IfErr, IsErr, IsErrAnd, is_err, if◌then◌else◌}
 use Rattle.std.specs.Io.KnownBytes.{Appends, Keeps}
 use Rattle.std.proofs.lemmas.List.{take-append-drop}
 use lib.Seq.{drop_at}
@@ -95,3 +96,38 @@ none_waits (Some xs) (Some ys) (Some zs) waited text p q = append-nil zs ∙ app
 
 pub whole_within : (a b : Option (List ℕ)) (text : List ℕ) → Appends a b text → GrowsWithin a b text
 whole_within a b text p = (text, [], append-nil text, p)
+
+-- ---- a text that was to be kept
+
+-- a text was kept after nothing
+pub kept_alone : {T E : Type 0} (r : Result T E) (new old xs text : List ℕ) (failed : Bool) → failed ≡ is_err r → failed ≡ false → old ≡ [] → xs ≡ text → new ≡ (if is_ok r then old ++ xs else old) → new ≡ text
+kept_alone (Ok x) new old xs text failed is not none same h = h ∙ ap (λ s. s ++ xs) none ∙ same
+kept_alone (Err e) new old xs text failed is not none same h = cc
+
+-- it could not be kept, so nothing waits
+pub none_kept : {T E : Type 0} (r : Result T E) (new old xs : List ℕ) (failed : Bool) → failed ≡ is_err r → failed ≡ true → old ≡ [] → new ≡ (if is_ok r then old ++ xs else old) → new ≡ []
+none_kept (Ok x) new old xs failed is fails none h = cc
+none_kept (Err e) new old xs failed is fails none h = h ∙ none
+
+pub nothing_fits : (xs : List ℕ) (most : ℕ) → xs ≡ [] → length xs ≤ most
+nothing_fits xs most none = omega (arith, ap length none)
+
+-- ---- a refusal
+
+-- what holds of a value holds of a refusal
+pub none_made : {T E : Type 0} (P : Type 0) (r : Result T E) → IsErr r → OnOk r P
+none_made P (Ok x) e = cc
+none_made P (Err x) e = tt
+
+pub refused_by : {T E : Type 0} (P : E → Type 0) (r : Result T E) → IsErrAnd r P → IfErr r P
+refused_by P (Ok x) h = absurd h
+refused_by P (Err e) h = h
+
+-- what held of a refusal that is passed on
+pub refused_alike : {T E : Type 0} (P : E → Type 0) (r : Result T E) (why : E) → IsErrAnd r (λ e. e ≡ why) → P why → IfErr r P
+refused_alike P (Ok x) why same h = absurd same
+refused_alike P (Err e) why same h = subst P (sym same) h
+
+-- a case that cannot be
+pub not_both : {P : Type 0} (b : Bool) → b ≡ true → b ≡ false → P
+not_both {P} b is not = cc

@@ -167,7 +167,9 @@ fn own_place_sum<'s, E: Endian>(
         (E.order (endian_of config.now)) frame.now.header (chunk_bytes frame.now.rest)) result }
 {
     let mut place: Sample<'s> = Sample::default();
-    placed_sum(alloc, config, frame, &mut place)
+    let sum = placed_sum(alloc, config, frame, &mut place);
+    drop(place);
+    sum
 }
 
 // What the record of a frame adds whose type is none of the kernel's.

@@ -147,12 +147,19 @@ impl<W: Write, E: Write> FramePrinter<W, E> {
             (configuration_of config.now) (O.order (endian_of config.now)) frame.now) result self.new }
     {
         let mut sample: Sample<'p> = Sample::default();
-        match &frame.sample_into(self.alloc, config, &mut sample) {
+        match frame.sample_into(self.alloc, config, &mut sample) {
             Ok(_) => {
                 let found = Found::Sample(&sample);
-                self.lines.add(&mut self.output, self.report, found)
+                let added = self.lines.add(&mut self.output, self.report, found);
+                drop(sample);
+                added
             }
-            Err(error) => self.refuse(error),
+            Err(error) => {
+                drop(sample);
+                let refused = self.refuse(&error);
+                drop(error);
+                refused
+            }
         }
     }
 
@@ -166,12 +173,18 @@ impl<W: Write, E: Write> FramePrinter<W, E> {
         ensures { PrintsAnswer W.contents E.contents self.old (frame_answer
             (configuration_of config.now) (O.order (endian_of config.now)) frame.now) result self.new }
     {
-        match &frame.record(self.alloc, config) {
+        match frame.record(self.alloc, config) {
             Ok(record) => {
-                let found = Found::Record(record);
-                self.lines.add(&mut self.output, self.report, found)
+                let found = Found::Record(&record);
+                let added = self.lines.add(&mut self.output, self.report, found);
+                drop(record);
+                added
             }
-            Err(error) => self.refuse(error),
+            Err(error) => {
+                let refused = self.refuse(&error);
+                drop(error);
+                refused
+            }
         }
     }
 

@@ -53,18 +53,16 @@ impl Report {
             ≡ string_bytes text.old ++ text_of_record self (found_value found.entry)) }
     {
         let has_line = match (self, found) {
-            (Report::Tasks, Found::Record(record)) => tasks::push_line(text, record)?,
-            (Report::Tasks, Found::Sample(_)) => false,
-            (Report::Samples, Found::Record(record)) => samples::push_line(text, record)?,
-            (Report::Samples, Found::Sample(sample)) => {
-                samples::push_sample(text, sample)?;
-                true
-            }
+            (Report::Tasks, Found::Record(record)) => tasks::push_line(text, record),
+            (Report::Tasks, Found::Sample(_)) => Ok(false),
+            (Report::Samples, Found::Record(record)) => samples::push_line(text, record),
+            (Report::Samples, Found::Sample(sample)) => samples::push_own_line(text, sample),
         };
-        if has_line {
-            text.push_str("\n")?;
+        if has_line? {
+            text.push_str("\n")
+        } else {
+            Ok(())
         }
-        Ok(())
     }
 }
 

@@ -1,6 +1,6 @@
 //! The line of a sample.
 
-ghost use Rattle.std.specs.Prelude.{◌≡◌, ◌+◌, ◌≤◌, ◌++◌, length, option_map, unwrap_or, is_some};
+ghost use Rattle.std.specs.Prelude.{◌≡◌, ◌+◌, ◌≤◌, ◌++◌, length, option_map, unwrap_or, is_some, true};
 ghost use Rattle.std.specs.Prelude.{string_bytes, Some, None, IfOk, OnOk, IsOk, []};
 ghost use Rattle.std.specs.List.{flat_map};
 ghost use Rattle.perf_records.specs.Records as values;
@@ -50,16 +50,23 @@ pub(crate) fn push_line(text: &mut String, found: &Record) -> Result<bool, Alloc
     ensures no_memory { printed.sample_line_of (values.record_value found.now) ≡ None → IsOk result }
 {
     match found {
-        Record::Sample(sample) => {
-            push_sample(text, sample)?;
-            Ok(true)
-        }
+        Record::Sample(sample) => push_own_line(text, sample),
         _ => Ok(false),
     }
 }
 
+// Appends the line of a sample, and returns that it is one.
+pub(crate) fn push_own_line(text: &mut String, sample: &Sample) -> Result<bool, AllocError>
+    ensures line { OnOk result (string_bytes text.new ≡ string_bytes text.old
+        ++ printed.sample_line (getters_of (values.sample_value sample.now))) }
+    ensures told { IfOk result (λ told. told ≡ true) }
+{
+    push_sample(text, sample)?;
+    Ok(true)
+}
+
 // Appends the line of a sample.
-pub(crate) fn push_sample(text: &mut String, sample: &Sample) -> Result<(), AllocError>
+fn push_sample(text: &mut String, sample: &Sample) -> Result<(), AllocError>
     ensures { OnOk result (string_bytes text.new ≡ string_bytes text.old
         ++ printed.sample_line (getters_of (values.sample_value sample.now))) }
 {

@@ -83,5 +83,6 @@ pub fn count_records<'p, B: ParseBuf<'p>, E: Endian>(
         Some(end) => end,
         None => counter.end(),
     };
+    drop(counter);
     (counts, end)
 }

@@ -54,15 +54,16 @@ pub(crate) fn push_line(text: &mut String, found: &Record) -> Result<bool, Alloc
         told ≡ is_some (printed.task_line_of (values.record_value found.now))) }
     ensures no_memory { printed.task_line_of (values.record_value found.now) ≡ None → IsOk result }
 {
-    match found {
-        Record::Comm(comm) => push_comm(text, comm)?,
-        Record::Mmap(map) => push_mmap(text, map)?,
-        Record::Mmap2(map) => push_mmap2(text, map)?,
-        Record::Fork(fork) => push_task(text, "fork", fork)?,
-        Record::Exit(exit) => push_task(text, "exit", exit)?,
-        Record::Namespaces(namespaces) => push_namespaces(text, namespaces)?,
+    let pushed = match found {
+        Record::Comm(comm) => push_comm(text, comm),
+        Record::Mmap(map) => push_mmap(text, map),
+        Record::Mmap2(map) => push_mmap2(text, map),
+        Record::Fork(fork) => push_task(text, "fork", fork),
+        Record::Exit(exit) => push_task(text, "exit", exit),
+        Record::Namespaces(namespaces) => push_namespaces(text, namespaces),
         _ => return Ok(false),
-    }
+    };
+    pushed?;
     Ok(true)
 }
 
@@ -237,11 +238,11 @@ fn push_namespace_list(
     ensures { OnOk result (string_bytes text.new
         ≡ string_bytes text.old ++ join_by printed.namespace (codes ",") namespaces.now) }
 {
-    if let Some((first, others)) = namespaces.split_first() {
-        push_namespace(text, strip, "", first)?;
-        push_others(text, strip, others)?;
-    }
-    Ok(())
+    let Some((first, others)) = namespaces.split_first() else {
+        return Ok(());
+    };
+    push_namespace(text, strip, "", first)?;
+    push_others(text, strip, others)
 }
 
 // Appends the namespaces after the first, each after a comma.

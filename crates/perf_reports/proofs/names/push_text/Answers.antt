@@ -6,6 +6,7 @@ use Rattle.std.proofs.lemmas.Iterator.Consumers.{YieldsList-turn, YieldsList-end
 use Rattle.std.proofs.lemmas.Iterator.Search.{all_from_yields_List}
 use Rattle.std.proofs.lemmas.List.{at_drop_more, at_drop_all, length_push}
 use Rattle.perf_reports.specs.TaskLines.{stays, escaped_char, escaped_text}
+use Rattle.perf_reports.proofs.Appended.{pushed}
 use Rattle.perf_reports.proofs.Escaped.{text_stays}
 use Rattle.perf_reports.proofs.names.push_text.Goals as goal
 
@@ -13,7 +14,7 @@ pub returns-then-all : goal.returns-then-all
 returns-then-all c =
     let all = all_from_yields_List stays _ _ c.all.result c.all.ensures.ran (YieldsList-from_chars c.args.part.now c.utf8.part cc) (λ x b q k. search (rules, tests)) in
     let same : escaped_text c.args.part.now ≡ c.args.part.now = text_stays c.args.part.now c.utf8.part (sym all ∙ c.if-all.true) in
-    rw same (search rules)
+    pushed c.push_str.result _ _ _ _ (sym same) c.push_str.ensures.bytes
 
 pub loop-character-preserved : goal.loop-character-preserved
 loop-character-preserved c =

@@ -10,6 +10,7 @@ use Rattle.perf_reports.specs.Printing.{is_memory}
 use Rattle.perf_reports.specs.declared.printing.TheConstants.{BATCH}
 use Rattle.perf_reports.specs.declared.printing.Stopped.{Stopped}
 use Rattle.perf_reports.proofs.FramePrinted.{went_on_prints, stopped_prints, there, run_sent, run_part, run_stopped_part, run_refused, ok_of_none, err_of_one}
+use Rattle.perf_reports.proofs.Printed.{not_both}
 use Rattle.perf_reports.proofs.printing.print_frames.Goals as goal
 
 take_fits : {X : Type 0} (k : ℕ) (xs : List X) → length (take k xs) ≡ k → k ≤ length xs
@@ -46,6 +47,9 @@ returns-in-Err-clause-part g c = λ told.
     let run = c.each_frame-run in
     let p = went_on_prints out err old run.result.count run.result.end c.in-Some.end c.args.printer.now run.new.handler c.in-Some.is (run.ensures.handed told) in
     run_part out err c.args.printer.now run.new.handler c.send.new.self (answers_left old) run.result.count BATCH run.ensures.count p c.send.ensures.part
+
+pub returns-in-Err-clause-refused : goal.returns-in-Err-clause-refused
+returns-in-Err-clause-refused g c = λ told memory. not_both (is_memory c.in-Err.stopped) memory c.in-Err.ensures.failed
 
 pub returns-in-None-clause-sent : goal.returns-in-None-clause-sent
 returns-in-None-clause-sent g c = λ told.

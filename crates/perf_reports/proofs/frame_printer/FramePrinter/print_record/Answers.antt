@@ -13,5 +13,5 @@ returns-in-Ok g c =
     let order = g.O.Endian.order (endian_of c.args.config.now) in
     let bytes = chunk_bytes f.rest in
     let read = record_read f.header settings order bytes (chunk_is_borrowed f.rest) c.record.result c.in-Ok.record c.record.ensures c.in-Ok.is in
-    let add = c.add.ensures in
-    adds_line g.W.Write.contents g.E.Write.contents c.args.self.now _ f.header (answer_after settings order f.header bytes) (record_value c.in-Ok.record) c.add.result read refl refl refl add.grown add.part add.refused
+    let add = c.add-added.ensures in
+    adds_line g.W.Write.contents g.E.Write.contents c.args.self.now _ f.header (answer_after settings order f.header bytes) (record_value c.in-Ok.record) c.add-added.result read refl refl refl add.grown add.part add.refused

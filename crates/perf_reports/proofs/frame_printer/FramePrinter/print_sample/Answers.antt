@@ -14,5 +14,5 @@ returns-in-Ok g c =
     let bytes = chunk_bytes f.rest in
     let now = c.sample_into.new.sample in
     let read = sample_read f.header settings order bytes (chunk_is_borrowed f.rest) c.sample_into.result c.in-Ok.field-0 now (c.sample_into.ensures.sample c.requires) c.in-Ok.is in
-    let add = c.add.ensures in
-    adds_line g.W.Write.contents g.E.Write.contents c.args.self.now _ f.header (answer_after settings order f.header bytes) (sample_is (sample_value now)) c.add.result read refl refl refl add.grown add.part add.refused
+    let add = c.add-added.ensures in
+    adds_line g.W.Write.contents g.E.Write.contents c.args.self.now _ f.header (answer_after settings order f.header bytes) (sample_is (sample_value now)) c.add-added.result read refl refl refl add.grown add.part add.refused
