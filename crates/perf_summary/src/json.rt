@@ -1,6 +1,6 @@
 //! The summary of a file as JSON.
 
-ghost use Rattle.std.specs.Prelude.{◌≡◌, ◌++◌, ℕ, [], Some, IfOk, OnOk, is_err, length, map, string_bytes};
+ghost use Rattle.std.specs.Prelude.{◌≡◌, ◌++◌, ℕ, [], IfOk, OnOk, is_err, length, map, string_bytes};
 ghost use Rattle.serde_json.specs.View.{view as data_of};
 ghost use Rattle.perf_file.specs.FeatureTable.{seen};
 ghost use Rattle.perf_file.specs.FeatureTexts.{words_left};
@@ -89,51 +89,15 @@ fn summary_value(
     ensures { IfOk result (λ value. data_of value ≡ own.own_data recording.now.order
         recording.now.bytes.now recording.now.events.items counts.now threads.now.entries) }
 {
-    let command_line = words_value(alloc, recording.command_line())?;
-    let events = event_values(alloc, recording.events(), &counts.events)?;
-    let hostname = text_value(alloc, recording.hostname())?;
-    let os_release = text_value(alloc, recording.os_release())?;
-    let threads = thread_values(alloc, threads)?;
-    let types = type_values(alloc, &counts.types, counts.other_types)?;
-    let machine = Machine {
-        command_line,
-        hostname,
-        os_release,
-    };
-    parts_value(alloc, machine, events, counts, threads, types)
-}
-
-// The machine and the command.
-#[derive(Drop)]
-struct Machine {
-    command_line: Value,
-    hostname: Value,
-    os_release: Value,
-}
-
-// The object of these parts.
-fn parts_value(
-    alloc: Global,
-    machine: Machine,
-    events: Vec<Value>,
-    counts: &Counts,
-    threads: Vec<Value>,
-    types: Vec<Value>,
-) -> Result<Value, AllocError>
-    ensures { IfOk result (λ value. data_of value ≡ jsons.parts_data
-        (data_of machine.command_line) (map data_of events.items) counts.now.frames
-        (data_of machine.hostname) (data_of machine.os_release) counts.now.refused
-        (map data_of threads.items) (map data_of types.items)) }
-{
     json!(in alloc; {
-        "command_line": machine.command_line,
-        "events": events,
+        "command_line": words_value(alloc, recording.command_line())?,
+        "events": event_values(alloc, recording.events(), &counts.events)?,
         "frames": counts.frames,
-        "hostname": machine.hostname,
-        "os_release": machine.os_release,
+        "hostname": text_value(alloc, recording.hostname())?,
+        "os_release": text_value(alloc, recording.os_release())?,
         "refused": counts.refused,
-        "threads": threads,
-        "types": types
+        "threads": thread_values(alloc, threads)?,
+        "types": type_values(alloc, &counts.types, counts.other_types)?
     })
 }
 
@@ -246,10 +210,9 @@ fn type_values(alloc: Global, types: &[u64], others: u64) -> Result<Vec<Value>, 
     Ok(values)
 }
 
-// A type that so many frames have.
-fn type_value(alloc: Global, ty: usize, count: u64, name: &str) -> Result<Value, AllocError>
-    ensures { IfOk result (λ value. data_of value
-        ≡ jsons.type_object count name.now (Some ty)) }
+// A type that so many frames have, without a number for several others.
+fn type_value(alloc: Global, ty: Option<usize>, count: u64, name: &str) -> Result<Value, AllocError>
+    ensures { IfOk result (λ value. data_of value ≡ jsons.type_object count name.now ty) }
 {
     json!(in alloc; {"frames": count, "name": name, "type": ty})
 }
@@ -267,7 +230,7 @@ fn push_type(
     if count == 0 {
         return Ok(());
     }
-    values.push(type_value(alloc, ty, count, type_name(ty))?)?;
+    values.push(type_value(alloc, Some(ty), count, type_name(ty))?)?;
     Ok(())
 }
 
@@ -279,6 +242,6 @@ fn push_others(values: &mut Vec<Value>, alloc: Global, count: u64) -> Result<(),
     if count == 0 {
         return Ok(());
     }
-    values.push(json!(in alloc; {"frames": count, "name": "other", "type": null})?)?;
+    values.push(type_value(alloc, None, count, "other")?)?;
     Ok(())
 }
