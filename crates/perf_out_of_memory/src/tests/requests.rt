@@ -16,6 +16,7 @@ use perf_event_data::{
 };
 use perf_flat::frame::FlatFrame;
 use perf_flat::read::{identifier, read, read_into, read_many, read_split};
+use perf_test_helpers::drops::{drop_record, drop_run, drop_sample};
 use std::alloc::Global;
 use std::io::BufReader;
 use std::process::Abort;
@@ -153,7 +154,7 @@ impl PartialVisitor for Values {
 
     fn visit_sample(self, content: Sample<'_>, _metadata: RecordMetadata) -> u64 {
         let value = value_of(&content);
-        drop(content);
+        drop_sample(content);
         value
     }
 }
@@ -163,13 +164,17 @@ fn by_record(
     config: &ParseConfig<Little>,
     frame: &Frame<'_, '_>,
 ) -> ParseResult<u64> {
-    let record = frame.record(alloc, config)?;
-    let value = match &record {
-        Record::Sample(sample) => value_of(sample),
-        _ => 0,
-    };
-    drop(record);
-    Ok(value)
+    match frame.record(alloc, config) {
+        Ok(record) => {
+            let value = match &record {
+                Record::Sample(sample) => value_of(sample),
+                _ => 0,
+            };
+            drop_record(Ok(record));
+            Ok(value)
+        }
+        Err(error) => Err(error),
+    }
 }
 
 fn by_sample_into<'p>(
@@ -213,7 +218,7 @@ fn tally_of(alloc: Global, bytes: &[u8], attr: perf_event_attr, call: Call) -> F
             bit = bit.rotate_left(1);
         }
     }
-    drop(place);
+    drop_sample(place);
     found
 }
 
@@ -470,7 +475,7 @@ fn listed<'p, B: ParseBuf<'p> + Drop>(alloc: Global, buf: B) -> u64 {
     let mut parser = Parser::new(alloc, buf, ParseConfig::<Little>::default());
     let run = read_records(&mut parser, 100);
     let count = run.frames.len() as u64;
-    drop(run);
+    drop_run(run);
     drop(parser);
     count
 }

@@ -9,6 +9,7 @@ use perf_event_data::sys::{perf_event_attr, perf_event_header};
 use perf_event_data::{Record, RunEnd, read_records};
 use perf_lines::outcome::Outcome;
 use perf_run::{line_of, run};
+use perf_test_helpers::drops::drop_run;
 use std::alloc::Global;
 use std::io::BufReader;
 use std::process::Abort;
@@ -79,7 +80,7 @@ fn listed(
     let grants = are_granted(alloc);
     let (count, end) = (run.frames.len(), ending(&run.end));
     let are_first = are_first(alloc, &run.frames, lines);
-    drop(run);
+    drop_run(run);
     drop(parser);
     Some((count, are_first, end, grants))
 }

@@ -5,6 +5,7 @@ use perf_event_data::endian::Little;
 use perf_event_data::parse::{Parse, ParseConfig, ParseResult, Parser};
 use perf_event_data::sys::{perf_event_attr, perf_event_header};
 use perf_run::line_of;
+use perf_test_helpers::drops::drop_record;
 use std::alloc::Global;
 use std::process::Abort;
 
@@ -68,7 +69,7 @@ fn line_of_frame(alloc: Global, attr: Attr, bytes: &[u8]) -> ParseResult<String>
     let answer = record_of(alloc, bytes, attr);
     is_granted(alloc);
     let line = line_at_last(alloc, bytes, &answer);
-    drop(answer);
+    drop_record(answer);
     line
 }
 
@@ -238,7 +239,7 @@ fn line_and_grants(alloc: Global) -> (ParseResult<String>, [bool; 2]) {
     let answer = record_of(alloc, RAW_BYTES, RAW);
     let grants = [is_granted(alloc), is_granted(alloc)];
     let line = line_at_last(alloc, RAW_BYTES, &answer);
-    drop(answer);
+    drop_record(answer);
     (line, grants)
 }
 

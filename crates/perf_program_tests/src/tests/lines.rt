@@ -5,6 +5,7 @@ use perf_event_data::parse::ParseResult;
 use perf_event_data::{Comm, CowSlice, Mmap2, MmapDetail, Record, Sample, SampleFields};
 use perf_reports::printing::Report;
 use perf_reports::{samples, tasks};
+use perf_test_helpers::drops::drop_record;
 use std::alloc::{AllocError, Global};
 use std::process::Abort;
 
@@ -31,7 +32,7 @@ fn check_line(
         Ok(record) => check_text(rt, text_of_line(rt.alloc(), report, record), want),
         Err(_) => panic!(rt; "no record"),
     }
-    drop(answer);
+    drop_record(answer);
 }
 
 const BUILD_ID: [u8; 20] = [

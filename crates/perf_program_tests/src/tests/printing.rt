@@ -6,9 +6,10 @@ use anyhow::{Result as AnyResult, bail};
 use perf_event_data::endian::Little;
 use perf_event_data::parse::{ParseConfig, ParseResult, Parser};
 use perf_event_data::sys::perf_event_header;
-use perf_event_data::{Record, Run, RunEnd, read_records};
+use perf_event_data::{Record, RunEnd, read_records};
 use perf_reports::printing::{Report, print_recording};
 use perf_reports::{samples, tasks};
+use perf_test_helpers::drops::end_of;
 use perf_test_inputs::bytes::{PLAIN_64, PLAIN_100};
 use std::alloc::{AllocError, Global};
 use std::cell::Cell;
@@ -622,9 +623,9 @@ fn print_run(
     errors: &mut Output<'_>,
     report: Report,
 ) -> AnyResult<(bool, bool)> {
-    let Run { frames, end } = read_records(parser, 256);
-    let printed = print_frames(alloc, output, errors, report, &frames);
-    drop(frames);
+    let run = read_records(parser, 256);
+    let printed = print_frames(alloc, output, errors, report, &run.frames);
+    let end = end_of(run);
     Ok((printed?, is_last(end)?))
 }
 
