@@ -1,7 +1,8 @@
 //! The folded stacks of the recording, computed by hand.
 
 use crate::tests::checks::check_bytes;
-use crate::tests::recording::{WITHOUT_PERIODS, bytes_of, recording};
+use crate::tests::files::little;
+use crate::tests::recording::{WITHOUT_PERIODS, recording};
 use perf_file::Recording;
 use perf_fold::{Choice, Weight, fold, status_after, write_fold};
 use perf_folded::Form;
@@ -67,7 +68,7 @@ fn periods_of_files(rt: HostRuntime) {
 
 #[test]
 fn periods_of_the_event(rt: HostRuntime) {
-    let file = bytes_of(rt.alloc(), &WITHOUT_PERIODS);
+    let file = little(rt.alloc(), &WITHOUT_PERIODS, &[], &[]);
     check_written(&rt, file, PERIODS, 0, b":8;[unknown] 8000\n");
 }
 

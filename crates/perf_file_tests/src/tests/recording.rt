@@ -1,5 +1,6 @@
 //! The recording of the tests: numbers of eight bytes.
 
+use crate::tests::files::little;
 use std::alloc::{AllocError, Global};
 
 /// The number of such numbers.
@@ -173,18 +174,7 @@ pub const WITHOUT_PERIODS: [u64; 31] = [
     40,
 ];
 
-/// The bytes of such a file.
-pub fn bytes_of(alloc: Global, words: &[u64]) -> Result<Vec<u8>, AllocError> {
-    let mut bytes = Vec::new(alloc);
-    for word in words {
-        for byte in word.to_le_bytes() {
-            bytes.push(byte)?;
-        }
-    }
-    Ok(bytes)
-}
-
-/// Those of the recording.
+/// The bytes of the recording.
 pub fn recording(alloc: Global) -> Result<Vec<u8>, AllocError> {
-    bytes_of(alloc, &RECORDING)
+    little(alloc, &RECORDING, &[], &[])
 }
