@@ -7,17 +7,17 @@ use Rattle.perf_file.specs.FeatureTexts.{text_of, command_line_of}
 use Rattle.perf_sections.specs.Names.{Name, name_view, name_text}
 use Rattle.perf_sections.specs.Opened.{File, FileEvent, event_view}
 use Rattle.perf_sections.specs.declared.events.Event.{Event}
-use Rattle.perf_tally.specs.Counts.{AreCounts, is_refused, event_count, of_event, type_count, other_count}
+use Rattle.perf_summary.specs.Counts.{AreCounts, is_refused, event_count, of_event, type_count, other_count}
 use Rattle.perf_summary.specs.OwnData.{own_events_data, own_types_data, own_data}
-use Rattle.perf_tally.specs.Steps.{no_count}
+use Rattle.perf_summary.specs.CountSteps.{no_count}
 use Rattle.perf_summary.specs.SummaryJson.{event_data, events_data, type_data, types_data, other_data, parts_data, feature_data, words_data, printed_data, summary_data}
 use Rattle.perf_summary.specs.ThreadText.{threads_data}
-use Rattle.perf_threads.specs.Threads.{plain_threads}
-use Rattle.perf_threads.specs.declared.threads.Thread.{Thread}
+use Rattle.perf_summary.specs.Threads.{plain_threads}
+use Rattle.perf_summary.specs.declared.threads.Thread.{Thread}
 use Rattle.perf_summary.proofs.PlainThreads.{datas_plain}
-use Rattle.perf_tally.specs.declared.contents.Contents.{Contents}
-use Rattle.perf_tally.specs.declared.counts.Counts.{Counts}
-use Rattle.perf_tally.specs.declared.counts.EventCount.{EventCount}
+use Rattle.perf_summary.specs.declared.contents.Contents.{Contents}
+use Rattle.perf_summary.specs.declared.counts.Counts.{Counts}
+use Rattle.perf_summary.specs.declared.counts.EventCount.{EventCount}
 
 -- ---- events
 

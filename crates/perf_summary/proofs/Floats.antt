@@ -12,13 +12,13 @@ use Rattle.perf_sections.specs.declared.events.Event.{Event}
 use Rattle.perf_file.specs.declared.feature.BadFeature.{BadFeature}
 use Rattle.perf_summary.specs.OwnData.{own_events_data, own_types_data, own_data}
 use Rattle.perf_summary.specs.Datas.{number_data}
-use Rattle.perf_tally.specs.Steps.{no_count}
+use Rattle.perf_summary.specs.CountSteps.{no_count}
 use Rattle.perf_summary.specs.ThreadText.{thread_data, threads_data}
-use Rattle.perf_threads.specs.declared.threads.Thread.{Thread}
+use Rattle.perf_summary.specs.declared.threads.Thread.{Thread}
 use Rattle.perf_summary.specs.SummaryJson.{type_object, printed_data, words_data, feature_data, event_data, type_data, types_data, other_data}
 use Rattle.perf_summary.specs.TypeNames.{type_name}
-use Rattle.perf_tally.specs.declared.counts.Counts.{Counts}
-use Rattle.perf_tally.specs.declared.counts.EventCount.{EventCount}
+use Rattle.perf_summary.specs.declared.counts.Counts.{Counts}
+use Rattle.perf_summary.specs.declared.counts.EventCount.{EventCount}
 
 -- whether one of several has
 abbrev pub any_float : List Data → Bool

@@ -1,3 +1,11 @@
+pub mod Found
+pub mod Growing
+pub mod InTurn
+pub mod Same
+pub mod Stated
+pub mod Counted
+pub mod Records
+pub mod Tallies
 pub mod Datas
 pub mod Floats
 pub mod Naming

@@ -5,13 +5,13 @@ use Rattle.std.proofs.lemmas.List.{take_more, length-take-le}
 use Rattle.perf_sections.specs.Names.{Name, name_view, name_text}
 use Rattle.perf_sections.specs.Opened.{FileEvent, event_view}
 use Rattle.perf_sections.specs.declared.events.Event.{Event}
-use Rattle.perf_tally.specs.Counts.{AreCounts, is_refused, event_count, of_event, type_count}
+use Rattle.perf_summary.specs.Counts.{AreCounts, is_refused, event_count, of_event, type_count}
 use Rattle.perf_summary.specs.OwnLines.{own_event_lines, own_type_lines, own_text}
-use Rattle.perf_tally.specs.Steps.{no_count}
+use Rattle.perf_summary.specs.CountSteps.{no_count}
 use Rattle.perf_summary.specs.SummaryText.{frames_line, event_line, event_lines, type_line, type_lines, other_line, counts_text}
-use Rattle.perf_tally.specs.declared.contents.Contents.{Contents}
-use Rattle.perf_tally.specs.declared.counts.Counts.{Counts}
-use Rattle.perf_tally.specs.declared.counts.EventCount.{EventCount}
+use Rattle.perf_summary.specs.declared.contents.Contents.{Contents}
+use Rattle.perf_summary.specs.declared.counts.Counts.{Counts}
+use Rattle.perf_summary.specs.declared.counts.EventCount.{EventCount}
 
 -- ---- events
 

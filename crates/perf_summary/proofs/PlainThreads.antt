@@ -3,8 +3,8 @@ use Rattle.std.proofs.Common.{◌≡◌, ℕ, List, [], ◌∷◌, ◌++◌, ref
 use Rattle.perf_history.specs.declared.names.Name.{Name}
 use Rattle.perf_history.specs.declared.names.Name.TheVariants.{Given, Number, Swapper}
 use Rattle.perf_walk.specs.Plain.{plain_name}
-use Rattle.perf_threads.specs.Threads.{plain_threads}
-use Rattle.perf_threads.specs.declared.threads.Thread.{Thread}
+use Rattle.perf_summary.specs.Threads.{plain_threads}
+use Rattle.perf_summary.specs.declared.threads.Thread.{Thread}
 use Rattle.perf_summary.specs.ThreadText.{thread_name, thread_line, threads_text, thread_data, threads_data}
 
 name_plain : (n : Name) → thread_name (plain_name n) ≡ thread_name n

@@ -1,3 +1,10 @@
+pub mod Subjects
+pub mod Facts
+pub mod Threads
+pub mod ThreadSteps
+pub mod Contents
+pub mod Counts
+pub mod CountSteps
 pub mod TypeNames
 pub mod Words
 pub mod Datas

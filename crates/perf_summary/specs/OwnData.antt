@@ -6,12 +6,12 @@ use Rattle.perf_base.specs.declared.endian.Dynamic.{Dynamic}
 use Rattle.perf_file.specs.FeatureTexts.{text_of, command_line_of}
 use Rattle.perf_sections.specs.Names.{name_view, name_text}
 use Rattle.perf_sections.specs.declared.events.Event.{Event}
-use Rattle.perf_tally.specs.Steps.{no_count}
+use Rattle.perf_summary.specs.CountSteps.{no_count}
 use Rattle.perf_summary.specs.ThreadText.{threads_data}
 use Rattle.perf_summary.specs.SummaryJson.{event_data, types_data, other_data, parts_data, feature_data, words_data, printed_data}
-use Rattle.perf_threads.specs.declared.threads.Thread.{Thread}
-use Rattle.perf_tally.specs.declared.counts.Counts.{Counts}
-use Rattle.perf_tally.specs.declared.counts.EventCount.{EventCount}
+use Rattle.perf_summary.specs.declared.threads.Thread.{Thread}
+use Rattle.perf_summary.specs.declared.counts.Counts.{Counts}
+use Rattle.perf_summary.specs.declared.counts.EventCount.{EventCount}
 
 -- events with these counts, numbered from a first number
 abbrev pub own_events_data : List EventCount → ℕ → List Event → List Data

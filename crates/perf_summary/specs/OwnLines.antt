@@ -4,9 +4,9 @@ use Rattle.std.specs.List.{flat_map, enumerate_from}
 use Rattle.perf_sections.specs.Names.{name_view, name_text}
 use Rattle.perf_sections.specs.declared.events.Event.{Event}
 use Rattle.perf_summary.specs.SummaryText.{frames_line, event_line, type_lines, other_line}
-use Rattle.perf_tally.specs.Steps.{no_count}
-use Rattle.perf_tally.specs.declared.counts.Counts.{Counts}
-use Rattle.perf_tally.specs.declared.counts.EventCount.{EventCount}
+use Rattle.perf_summary.specs.CountSteps.{no_count}
+use Rattle.perf_summary.specs.declared.counts.Counts.{Counts}
+use Rattle.perf_summary.specs.declared.counts.EventCount.{EventCount}
 
 -- the lines of events with these counts, numbered from a first number
 abbrev pub own_event_lines : List EventCount → ℕ → List Event → List ℕ

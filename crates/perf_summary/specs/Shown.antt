@@ -7,8 +7,8 @@ use Rattle.perf_sections.specs.Opens.{Fails}
 use Rattle.perf_sections.specs.declared.error.OpenError.{OpenError}
 use Rattle.perf_lines.specs.declared.outcome.Outcome.{Outcome}
 use Rattle.perf_data_text.specs.Shown.{Writes}
-use Rattle.perf_threads.specs.Threads.{AreThreadsOf}
-use Rattle.perf_threads.specs.declared.threads.Thread.{Thread}
+use Rattle.perf_summary.specs.Threads.{AreThreadsOf}
+use Rattle.perf_summary.specs.declared.threads.Thread.{Thread}
 use Rattle.perf_summary.specs.SummaryJson.{json_text}
 use Rattle.perf_summary.specs.SummaryText.{summary_text, is_any_refused}
 use Rattle.perf_summary.specs.declared.run.Form.{Form}

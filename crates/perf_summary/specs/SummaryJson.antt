@@ -8,14 +8,14 @@ use Rattle.perf_sections.specs.Names.{Name, name_text}
 use Rattle.perf_sections.specs.Opened.{File, FileEvent}
 use Rattle.perf_file.specs.declared.feature.BadFeature.{BadFeature}
 use Rattle.perf_data_text.specs.HeaderText.{printed}
-use Rattle.perf_tally.specs.Contents.{all_contents}
-use Rattle.perf_tally.specs.Counts.{is_refused, event_count, of_event, type_count, other_count}
+use Rattle.perf_summary.specs.Contents.{all_contents}
+use Rattle.perf_summary.specs.Counts.{is_refused, event_count, of_event, type_count, other_count}
 use Rattle.perf_summary.specs.Datas.{count_data, list_data, number_data}
 use Rattle.perf_summary.specs.ThreadText.{threads_data}
 use Rattle.perf_summary.specs.TypeNames.{type_name}
-use Rattle.perf_threads.specs.declared.threads.Thread.{Thread}
-use Rattle.perf_tally.specs.declared.contents.Contents.{Contents}
-use Rattle.perf_tally.specs.declared.counts.EventCount.{EventCount}
+use Rattle.perf_summary.specs.declared.threads.Thread.{Thread}
+use Rattle.perf_summary.specs.declared.contents.Contents.{Contents}
+use Rattle.perf_summary.specs.declared.counts.EventCount.{EventCount}
 
 -- ---- the machine and the command
 

@@ -5,7 +5,7 @@ use Rattle.serde_json.specs.Data.{Data, string, object, member, no_members}
 use Rattle.perf_data_text.specs.HeaderText.{printed}
 use Rattle.perf_history.specs.declared.names.Name.{Name}
 use Rattle.perf_history.specs.declared.names.Name.TheVariants.{Given, Number, Swapper}
-use Rattle.perf_threads.specs.declared.threads.Thread.{Thread}
+use Rattle.perf_summary.specs.declared.threads.Thread.{Thread}
 use Rattle.perf_summary.specs.Datas.{count_data, number_data}
 use Rattle.perf_summary.specs.Words.{time_text}
 

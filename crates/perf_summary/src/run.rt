@@ -6,17 +6,17 @@ ghost use Rattle.perf_sections.specs.Opened.{FileEvent};
 ghost use Rattle.perf_file.specs.Views.{view};
 ghost use Rattle.perf_data_text.specs.OwnNames.{AreNamedBy};
 ghost use Rattle.perf_data_text.specs.Shown.{Writes};
-ghost use Rattle.perf_threads.specs.Threads.{AreThreadsOf};
-ghost use Rattle.perf_threads.specs.declared.threads.Thread.{Thread};
+ghost use Rattle.perf_summary.specs.Threads.{AreThreadsOf};
+ghost use Rattle.perf_summary.specs.declared.threads.Thread.{Thread};
 ghost use Rattle.perf_summary.specs.Shown as shown;
 ghost use Rattle.perf_summary.specs.SummaryText.{is_any_refused};
 
 use crate::json::json_of_summary;
 use crate::text::text_of_summary;
+use crate::threads::threads_of;
 use perf_file::{OpenError, Recording};
 use perf_lines::outcome::Outcome;
 use perf_lines::output::write_and_flush;
-use perf_threads::threads_of;
 use std::alloc::{AllocError, Global};
 use std::io::Write;
 

@@ -6,19 +6,19 @@ ghost use Rattle.perf_sections.specs.Opened.{FileEvent};
 ghost use Rattle.perf_file.specs.Pieces.{pieces_of};
 ghost use Rattle.perf_file.specs.Views.{view};
 ghost use Rattle.perf_data_text.specs.OwnNames.{AreNamedBy};
-ghost use Rattle.perf_threads.specs.Threads.{plain_threads};
-ghost use Rattle.perf_tally.specs.Counts.{AreCounts};
+ghost use Rattle.perf_summary.specs.Threads.{plain_threads};
+ghost use Rattle.perf_summary.specs.Counts.{AreCounts};
 ghost use Rattle.perf_summary.specs.OwnLines as own;
-ghost use Rattle.perf_tally.specs.Steps.{no_count};
+ghost use Rattle.perf_summary.specs.CountSteps.{no_count};
 ghost use Rattle.perf_summary.specs.SummaryText as texts;
 
-use crate::threads::{Time, push_threads};
+use crate::counting::counts_of;
+use crate::counts::{Counts, EventCount};
+use crate::thread_lines::{Time, push_threads};
+use crate::threads::{Thread, ThreadId};
 use crate::type_names::type_name;
 use perf_data_text::header::{push_command_line, push_text};
 use perf_file::{Event, Recording};
-use perf_tally::counting::counts_of;
-use perf_tally::counts::{Counts, EventCount};
-use perf_threads::{Thread, ThreadId};
 use std::alloc::{AllocError, Global};
 use std::collections::BTreeMap;
 

@@ -1,131 +1,173 @@
-//! What each thread did, as a line of text and as JSON.
+//! What each thread of a recording did.
 
-ghost use Rattle.std.specs.Prelude.{◌≡◌, ◌++◌, Some, IfOk, OnOk, map, string_bytes};
-ghost use Rattle.serde_json.specs.View.{view as data_of};
-ghost use Rattle.perf_summary.specs.ThreadText as texts;
-ghost use Rattle.perf_summary.specs.Words.{time_text};
+ghost use Rattle.std.specs.Prelude.{◌≡◌, [], IfOk, List, OnOk, cond, map};
+ghost use Rattle.std.specs.BTreeMap.{get, IsOrdered};
+ghost use Rattle.perf_file.specs.Views.{view};
+ghost use Rattle.perf_history.specs.declared.changes.Change.{Change};
+ghost use Rattle.perf_walk.specs.Moments.{Moment, known_after};
+ghost use Rattle.perf_walk.specs.Plain.{IsPast};
+ghost use Rattle.perf_walk.specs.Steps.{IsFrameOf};
+ghost use Rattle.perf_walk.specs.declared.walk.Found as founds;
+ghost use Rattle.perf_summary.specs.Facts.{fact_of, fact_at, facts};
+ghost use Rattle.perf_summary.specs.ThreadSteps as steps;
+ghost use Rattle.perf_summary.specs.Threads as spec;
 
-use perf_file::EscapedBytes;
+use crate::facts::{Fact, fact_of};
+use crate::subjects::Kind;
+use perf_file::{Entry, Recording};
 use perf_history::Name;
-use perf_threads::{Thread, ThreadId};
-use serde_json::{Value, json};
+use perf_walk::Walk;
 use std::alloc::{AllocError, Global};
 use std::collections::BTreeMap;
-use std::fmt;
 
-// A time, which may not be known.
-#[derive(Copy, Clone)]
-pub(crate) struct Time(pub(crate) Option<u64>);
+/// The ids of a thread: of its process, and its own.
+pub type ThreadId = (u32, u32);
 
-impl fmt::Display for Time {
-    ghost output = { λ t. Some (time_text t.0) };
-
-    fn fmt<W: fmt::Write>(&self, f: &mut fmt::Formatter<W>) -> fmt::Result {
-        match self.0 {
-            Some(time) => write!(f, "{time}"),
-            None => f.write_str("-"),
-        }
-    }
+/// What a thread did in a recording, by the frames about it: its samples, and its COMM, FORK and EXIT.
+#[derive(Clone, Copy, Debug)]
+pub struct Thread<'p> {
+    /// Its name by the last of these frames.
+    pub name: Name<'p>,
+    /// The time of the first of these frames that has one, in nanoseconds: that of its FORK, if it began
+    /// while it was recorded.
+    pub start: Option<u64>,
+    /// The time of its EXIT, in nanoseconds. `None` if it did not end while it was recorded.
+    pub end: Option<u64>,
+    /// How many samples were taken in it.
+    pub samples: u64,
 }
 
-// The name of a thread.
-#[derive(Copy, Clone)]
-struct ThreadName<'p>(Name<'p>);
+// A thread before its first frame.
+const NO_THREAD: Thread<'static> = Thread {
+    name: Name::Swapper,
+    start: None,
+    end: None,
+    samples: 0,
+};
 
-impl fmt::Display for ThreadName<'_> {
-    ghost output = { λ n. Some (texts.thread_name n.0) };
-
-    fn fmt<W: fmt::Write>(&self, f: &mut fmt::Formatter<W>) -> fmt::Result {
-        match self.0 {
-            Name::Given(name) => write!(f, "{}", EscapedBytes(name)),
-            Name::Number(tid) => write!(f, ":{tid}"),
-            Name::Swapper => f.write_str("swapper"),
-        }
-    }
-}
-
-/// Appends the lines of threads.
-pub(crate) fn push_threads(
-    text: &mut String,
-    threads: &BTreeMap<ThreadId, Thread<'_>>,
-) -> Result<(), AllocError>
-    ensures { OnOk result (string_bytes text.new
-        ≡ string_bytes text.old ++ texts.threads_text threads.now.entries) }
+// A time, if it is known.
+fn known(time: u64) -> Option<u64>
+    ensures { result ≡ steps.known time }
 {
-    for (who, thread) in threads.iter() {
-        push_thread(text, *who, thread)?;
+    if time == 0 { None } else { Some(time) }
+}
+
+// The time of the end of a thread after a frame.
+fn end_after(before: Option<u64>, fact: &Fact<'_>) -> Option<u64>
+    ensures { result ≡ cond (spec.is_exit fact.now) (steps.or_last before fact.now.time) before }
+{
+    match fact.kind {
+        Kind::Exit => known(fact.time).or(before),
+        Kind::Sample | Kind::Other => before,
     }
+}
+
+// How many samples a frame is.
+fn samples_in(kind: Kind) -> u64
+    ensures { result ≡ cond (spec.is_sample_kind kind) 1 0 }
+{
+    match kind {
+        Kind::Sample => 1,
+        Kind::Exit | Kind::Other => 0,
+    }
+}
+
+// A thread with one more frame.
+fn grown<'p>(thread: &Thread<'_>, fact: &Fact<'p>) -> Thread<'p>
+    ensures { result ≡ steps.grown thread.now fact.now }
+{
+    Thread {
+        name: fact.name,
+        start: thread.start.or(known(fact.time)),
+        end: end_after(thread.end, fact),
+        samples: thread.samples.wrapping_add(samples_in(fact.kind)),
+    }
+}
+
+// A thread, or one before its first frame.
+fn thread_or_none<'p>(threads: &BTreeMap<ThreadId, Thread<'p>>, who: ThreadId) -> Thread<'p>
+    ensures { result ≡ steps.or_none (get spec.id_cmp threads.now who) }
+{
+    match threads.get(&who) {
+        Some(thread) => *thread,
+        None => NO_THREAD,
+    }
+}
+
+// Adds a frame to threads.
+fn add<'p>(threads: &mut BTreeMap<ThreadId, Thread<'p>>, fact: &Fact<'p>) -> Result<(), AllocError>
+    ensures adds { OnOk result (steps.Adds fact.now threads.old threads.new) }
+    ensures ordered { OnOk result (IsOrdered spec.id_cmp threads.new) }
+{
+    let before = thread_or_none(threads, fact.who);
+    threads.insert(fact.who, grown(&before, fact))?;
     Ok(())
 }
 
-// Appends the line of a thread.
-fn push_thread(text: &mut String, who: ThreadId, thread: &Thread<'_>) -> Result<(), AllocError>
-    ensures { OnOk result (string_bytes text.new
-        ≡ string_bytes text.old ++ texts.thread_line (who, thread.now)) }
+// Goes on to the frame of an entry, and adds it, if it is about a thread.
+fn go_on<'p>(
+    threads: &mut BTreeMap<ThreadId, Thread<'p>>,
+    walk: &mut Walk<'_, 'p>,
+    entry: &Entry,
+) -> Result<(), AllocError>
+    ensures gone { (known : List Change) → IsPast walk.old.history known →
+        OnOk result (IsPast walk.new.history (known_after (view walk.old.recording.now) entry.now known)
+        × steps.AddsPlain (fact_at (view walk.old.recording.now) entry.now known) threads.old threads.new) }
+    ensures ordered { IsOrdered spec.id_cmp threads.old → OnOk result (IsOrdered spec.id_cmp threads.new) }
+    ensures recording { walk.new.recording.now ≡ walk.old.recording.now }
 {
-    push_ids(text, who, thread.samples)?;
-    push_times(text, thread)?;
-    write!(text, " {}\n", ThreadName(thread.name))
-}
-
-// Appends the ids of a thread, and its samples.
-fn push_ids(text: &mut String, who: ThreadId, samples: u64) -> Result<(), AllocError>
-    ensures { OnOk result (string_bytes text.new
-        ≡ string_bytes text.old ++ texts.ids_words who samples) }
-{
-    let (pid, tid) = who;
-    write!(text, "thread {pid}/{tid} samples={samples}")
-}
-
-// Appends when a thread began and ended.
-fn push_times(text: &mut String, thread: &Thread<'_>) -> Result<(), AllocError>
-    ensures { OnOk result (string_bytes text.new
-        ≡ string_bytes text.old ++ texts.times_words thread.now) }
-{
-    let start = Time(thread.start);
-    let end = Time(thread.end);
-    write!(text, " start={start} end={end}")
-}
-
-/// Threads as JSON.
-pub(crate) fn thread_values(
-    alloc: Global,
-    threads: &BTreeMap<ThreadId, Thread<'_>>,
-) -> Result<Vec<Value>, AllocError>
-    ensures { IfOk result (λ values. map data_of values.items
-        ≡ texts.threads_data threads.now.entries) }
-{
-    let mut values = Vec::new(alloc);
-    for (who, thread) in threads.iter() {
-        values.push(thread_value(alloc, *who, thread)?)?;
+    let found = walk.step(entry)?;
+    match found {
+        Some(_found) => add_found(threads, walk, entry),
+        None => Ok(()),
     }
-    Ok(values)
 }
 
-// A thread as JSON.
-fn thread_value(alloc: Global, who: ThreadId, thread: &Thread<'_>) -> Result<Value, AllocError>
-    ensures { IfOk result (λ value. data_of value ≡ texts.thread_data (who, thread.now)) }
+// Adds the frame of an entry that a walk has found, if it is about a thread.
+fn add_found<'p>(
+    threads: &mut BTreeMap<ThreadId, Thread<'p>>,
+    walk: &Walk<'_, 'p>,
+    entry: &Entry,
+) -> Result<(), AllocError>
+    ensures added { (m : Moment) (found : founds.Found) →
+        IsFrameOf (view walk.now.recording.now) m found walk.now.frame →
+        IsPast walk.now.history m.known →
+        OnOk result (steps.AddsPlain (fact_of (view walk.now.recording.now) entry.now m)
+        threads.old threads.new) }
+    ensures ordered { IsOrdered spec.id_cmp threads.old → OnOk result (IsOrdered spec.id_cmp threads.new) }
 {
-    let name = format!(in alloc; "{}", ThreadName(thread.name))?;
-    named_value(alloc, who, thread, name.as_str())
+    match fact_of(walk, entry) {
+        Some(fact) => add(threads, &fact),
+        None => Ok(()),
+    }
 }
 
-// The same with this name.
-fn named_value(
+/// What each thread of a recording did, by process and then by thread: each that a sample, COMM, FORK or
+/// EXIT is about. A sample without ids counts for thread 0 of process 0.
+pub fn threads_of<'p>(
     alloc: Global,
-    who: ThreadId,
-    thread: &Thread<'_>,
-    name: &str,
-) -> Result<Value, AllocError>
-    ensures { IfOk result (λ value. data_of value ≡ texts.named_data who thread.now name.now) }
+    recording: &Recording<'p>,
+) -> Result<BTreeMap<ThreadId, Thread<'p>>, AllocError>
+    ensures { IfOk result (λ threads. spec.AreThreadsOf (view recording.now)
+        (spec.plain_threads threads.entries)) }
 {
-    let (pid, tid) = who;
-    json!(in alloc; {
-        "end": thread.end,
-        "name": name,
-        "pid": pid,
-        "samples": thread.samples,
-        "start": thread.start,
-        "tid": tid
-    })
+    let entries = recording.in_order(alloc)?;
+    threads_in(alloc, recording, &entries)
+}
+
+// Those of which the frames of entries in turn state something.
+fn threads_in<'p>(
+    alloc: Global,
+    recording: &Recording<'p>,
+    entries: &[Entry],
+) -> Result<BTreeMap<ThreadId, Thread<'p>>, AllocError>
+    ensures { IfOk result (λ threads. spec.AreThreadsBy
+        (facts (view recording.now) entries.now []) (spec.plain_threads threads.entries)) }
+{
+    let mut walk = Walk::new(alloc, recording);
+    let mut threads = BTreeMap::new(alloc);
+    for index in 0..entries.len() {
+        go_on(&mut threads, &mut walk, &entries[index])?;
+    }
+    Ok(threads)
 }

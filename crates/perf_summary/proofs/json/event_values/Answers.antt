@@ -2,7 +2,7 @@ use Rattle.std.proofs.Common.{ℕ, List, [], ◌∷◌, ◌++◌, get_or, map, s
 use Rattle.std.proofs.lemmas.List.{map-append}
 use Rattle.serde_json.specs.View.{view}
 use Rattle.perf_sections.specs.Names.{name_view, name_text}
-use Rattle.perf_tally.specs.Steps.{no_count}
+use Rattle.perf_summary.specs.CountSteps.{no_count}
 use Rattle.perf_summary.specs.SummaryJson.{event_data}
 use Rattle.perf_summary.proofs.Datas.{data_more}
 use Rattle.perf_summary.proofs.json.event_values.Goals as goal

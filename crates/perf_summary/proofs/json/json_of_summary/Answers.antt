@@ -4,8 +4,8 @@ use Rattle.serde_json.specs.View as values
 use Rattle.serde_json.specs.Written.{compact_text, has_float}
 use Rattle.perf_sections.specs.Opened.{event_view}
 use Rattle.perf_file.specs.Views.{view}
-use Rattle.perf_tally.specs.Contents.{all_contents}
-use Rattle.perf_tally.specs.Counts.{AreCounts}
+use Rattle.perf_summary.specs.Contents.{all_contents}
+use Rattle.perf_summary.specs.Counts.{AreCounts}
 use Rattle.perf_summary.proofs.Datas.{summary_alike}
 use Rattle.perf_summary.proofs.Floats.{no_float}
 use Rattle.perf_summary.proofs.json.json_of_summary.Goals as goal

@@ -1,7 +1,7 @@
 use Rattle.std.proofs.Common.{sym, ap, ◌∙◌}
 use Rattle.std.proofs.lemmas.Result.{IfOk-weaker}
 use Rattle.perf_file.specs.Views.{view}
-use Rattle.perf_threads.specs.Threads.{plain_threads}
+use Rattle.perf_summary.specs.Threads.{plain_threads}
 use Rattle.perf_summary.specs.Shown.{text_in}
 use Rattle.perf_summary.proofs.run.text_in.Goals as goal
 

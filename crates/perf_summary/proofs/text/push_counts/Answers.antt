@@ -1,7 +1,7 @@
 use Rattle.std.proofs.Common.{◌++◌, List, ℕ, length, string_bytes, ap, ◌∙◌}
 use Rattle.perf_summary.specs.OwnLines.{own_event_lines, own_type_lines}
 use Rattle.perf_summary.specs.SummaryText.{frames_line, other_line}
-use Rattle.perf_tally.specs.declared.counts.EventCount.{EventCount}
+use Rattle.perf_summary.specs.declared.counts.EventCount.{EventCount}
 use Rattle.perf_summary.proofs.Naming.{four_more}
 use Rattle.perf_summary.proofs.text.push_counts.Goals as goal
 

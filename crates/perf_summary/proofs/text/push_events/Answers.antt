@@ -1,7 +1,7 @@
 use Rattle.std.proofs.Common.{◌++◌, ℕ, List, get_or, take, string_bytes, sym, ap, ◌∙◌, append_assoc, arith}
 use Rattle.perf_sections.specs.Names.{name_view, name_text}
 use Rattle.perf_summary.specs.OwnLines.{own_event_lines}
-use Rattle.perf_tally.specs.Steps.{no_count}
+use Rattle.perf_summary.specs.CountSteps.{no_count}
 use Rattle.perf_summary.specs.SummaryText.{event_line}
 use Rattle.perf_summary.proofs.Naming.{own_more}
 use Rattle.perf_summary.proofs.text.push_events.Goals as goal

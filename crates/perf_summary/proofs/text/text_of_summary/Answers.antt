@@ -3,8 +3,8 @@ use Rattle.std.proofs.lemmas.List.{length-map}
 use Rattle.perf_sections.specs.Opened.{event_view}
 use Rattle.perf_file.specs.Views.{view}
 use Rattle.perf_sections.specs.declared.events.Event.{Event}
-use Rattle.perf_tally.specs.Contents.{all_contents}
-use Rattle.perf_tally.specs.Counts.{AreCounts}
+use Rattle.perf_summary.specs.Contents.{all_contents}
+use Rattle.perf_summary.specs.Counts.{AreCounts}
 use Rattle.perf_summary.specs.OwnLines.{own_text}
 use Rattle.perf_summary.specs.SummaryText.{counts_text, machine_text}
 use Rattle.perf_summary.specs.ThreadText.{threads_text}

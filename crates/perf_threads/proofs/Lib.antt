@@ -1,5 +1,0 @@
-pub mod Found
-pub mod Growing
-pub mod InTurn
-pub mod Same
-pub mod Stated

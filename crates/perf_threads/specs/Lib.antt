@@ -1,4 +1,0 @@
-pub mod Subjects
-pub mod Facts
-pub mod Threads
-pub mod Steps
