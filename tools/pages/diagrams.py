@@ -32,7 +32,6 @@ RETURNS = {
     "perf_event_c": "the calls for C, one archive",
     "perf_text": "text that is written backward",
     "perf_flame": "folded stacks, flame graphs",
-    "perf_stacks": "the names of their frames",
     "perf_folded": "folded stacks as text",
     "perf_fold": "the folded stacks of a file",
     "perf_columns": "the columns of lines",

@@ -4,10 +4,10 @@ use crate::ending::report;
 use crate::filters::{Chosen, refuse_times};
 use crate::{bytes_of, note_progress};
 use clap::ArgMatches;
+use perf_flame::names::Frames;
 use perf_fold::{Choice, Weight, write_fold};
 use perf_folded::{Form, TextError, status_after, write_sum};
 use perf_lines::outcome::Outcome;
-use perf_stacks::Frames;
 use perf_walk::Filter;
 use std::io;
 

@@ -2,11 +2,11 @@
 
 ghost use Rattle.std.specs.Prelude.{◌≡◌, ◌++◌, [], OnOk, map};
 ghost use Rattle.perf_flame.specs.Stacks.{clean, frame_text};
-ghost use Rattle.perf_stacks.specs.Names as names;
+ghost use Rattle.perf_flame.specs.Names as names;
 
 use crate::kept::{KeptFrames, number_of_text, spot_of};
 use crate::names::{Frames, push_thread};
-use perf_flame::stack::Stack;
+use crate::stack::Stack;
 use perf_history::{Mode, Name, Place};
 use std::alloc::{AllocError, Global};
 
@@ -29,7 +29,7 @@ pub struct Stacks<'p> {
 }
 
 impl<'p> Stacks<'p> {
-    ghost use Rattle.perf_stacks.specs.Grown.{text_of};
+    ghost use Rattle.perf_flame.specs.Grown.{text_of};
 
     /// The stack of a thread without a name.
     pub fn new(alloc: Global) -> Stacks<'p>

@@ -1,8 +1,8 @@
 -- What the names of frames are made of.
 use Rattle.std.specs.Prelude.{ℕ, List, ◌++◌, codes}
-use Rattle.perf_stacks.specs.Names.{file_name, kernel_name, offset_text}
-use Rattle.perf_stacks.specs.declared.kept.Spot.{Spot}
-use Rattle.perf_stacks.specs.declared.kept.Spot.TheVariants.{Kernel, Placed, Whole, Unknown}
+use Rattle.perf_flame.specs.Names.{file_name, kernel_name, offset_text}
+use Rattle.perf_flame.specs.declared.kept.Spot.{Spot}
+use Rattle.perf_flame.specs.declared.kept.Spot.TheVariants.{Kernel, Placed, Whole, Unknown}
 
 -- the name of a frame: an address of the kernel, a file and an offset there, a file alone, or nothing
 abbrev pub spot_name : Spot → List ℕ

@@ -9,8 +9,8 @@ use Rattle.perf_history.specs.declared.names.Name.TheVariants.{Given, Number, Sw
 use Rattle.perf_history.specs.declared.places.File.{File}
 use Rattle.perf_history.specs.declared.places.File.TheVariants.{Named, PerfMap, Symbol}
 use Rattle.perf_history.specs.declared.places.Place.{Place}
-use Rattle.perf_stacks.specs.declared.names.Frames.{Frames}
-use Rattle.perf_stacks.specs.declared.names.Frames.TheVariants.{Offsets, Files}
+use Rattle.perf_flame.specs.declared.names.Frames.{Frames}
+use Rattle.perf_flame.specs.declared.names.Frames.TheVariants.{Offsets, Files}
 
 -- a thread without a name: a colon and its number
 abbrev pub number_name : ℕ → List ℕ

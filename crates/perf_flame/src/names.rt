@@ -1,7 +1,7 @@
 //! The names of threads and of frames.
 
 ghost use Rattle.std.specs.Prelude.{◌≡◌, ◌++◌, ◌≤◌, OnOk, length};
-ghost use Rattle.perf_stacks.specs.Names as names;
+ghost use Rattle.perf_flame.specs.Names as names;
 
 use perf_history::{File, Name};
 use perf_text::strip::Strip;

@@ -4,11 +4,11 @@ ghost use Rattle.std.specs.Prelude.{◌≡◌, ◌++◌, IfOk, IfSome, OnOk};
 ghost use Rattle.std.specs.Bool.{OnTrue};
 ghost use Rattle.perf_flame.specs.Stacks.{frame_text};
 ghost use Rattle.perf_flame.specs.StackText as texts;
-ghost use Rattle.perf_stacks.specs.Names as names;
-ghost use Rattle.perf_stacks.specs.Spots.{spot_name};
+ghost use Rattle.perf_flame.specs.Names as names;
+ghost use Rattle.perf_flame.specs.Spots.{spot_name};
 
 use crate::names::{Frames, push_file, push_kernel, push_offset};
-use perf_flame::stack::Stack;
+use crate::stack::Stack;
 use perf_history::{File, Mode, Place};
 use std::alloc::{AllocError, Global};
 

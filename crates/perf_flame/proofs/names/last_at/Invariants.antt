@@ -1,6 +1,6 @@
 use Rattle.std.proofs.Common.{◌≡◌, ◌+◌, ◌≤◌, length, take, eqb, not}
 use Rattle.std.specs.List.{suffix_len}
-use Rattle.perf_stacks.proofs.names.last_at.Given as goal
+use Rattle.perf_flame.proofs.names.last_at.Given as goal
 
 abbrev pub invariant-loop-at : goal.invariant-loop-at
 invariant-loop-at l =

@@ -1,7 +1,7 @@
--- The text of a stack that grows.
+-- The text of the stack of a sample that grows.
 use Rattle.std.specs.Prelude.{ℕ, List}
 use Rattle.perf_flame.specs.StackText.{stack_text}
-use Rattle.perf_stacks.specs.declared.stacks.Stacks.{Stacks}
+use Rattle.perf_flame.specs.declared.stacks.Stacks.{Stacks}
 
 -- the text so far
 abbrev pub text_of : Stacks → List ℕ
