@@ -1,7 +1,7 @@
-//! The two forms in which folded stacks are written.
+//! The forms in which folded stacks are written.
 
 ghost use Rattle.perf_flame.specs.FoldedLines.{folded_lines};
-ghost use Rattle.perf_folded.specs.Forms.{GivesText, GivesGraph};
+ghost use Rattle.perf_fold.specs.Forms.{GivesText, GivesGraph};
 
 use crate::error::TextError;
 use perf_flame::error::FlameError;

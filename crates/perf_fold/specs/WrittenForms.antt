@@ -1,15 +1,15 @@
--- What is written of folded stacks.
+-- What is written of folded stacks in a form.
 use Rattle.std.specs.Prelude.{◌≡◌, ℕ, List, take, Option, Result, Ok, Err}
 use Rattle.std.specs.Io.KnownBytes.{Appends}
 use Rattle.perf_flame.specs.Lines.{Line}
 use Rattle.perf_lines.specs.Outcomes.{status_of}
 use Rattle.perf_lines.specs.declared.outcome.Outcome.{Outcome}
 use Rattle.perf_lines.specs.declared.outcome.Outcome.TheVariants as outcome
-use Rattle.perf_folded.specs.Forms.{IsText, Fails}
-use Rattle.perf_folded.specs.Sums.{AreRead, IsRefusedIn, sums_of_all}
-use Rattle.perf_folded.specs.declared.error.TextError.{TextError}
-use Rattle.perf_folded.specs.declared.error.TextError.TheVariants as errors
-use Rattle.perf_folded.specs.declared.form.Form.{Form}
+use Rattle.perf_fold.specs.Forms.{IsText, Fails}
+use Rattle.perf_fold.specs.Sums.{AreRead, IsRefusedIn, sums_of_all}
+use Rattle.perf_fold.specs.declared.error.TextError.{TextError}
+use Rattle.perf_fold.specs.declared.error.TextError.TheVariants as errors
+use Rattle.perf_fold.specs.declared.form.Form.{Form}
 
 -- what was written of a text: all of it, or its beginning if writing failed
 abbrev pub Writes : Outcome → (text : List ℕ) → (old new : Option (List ℕ)) → Type 0
@@ -32,8 +32,8 @@ WritesSum form texts (Err errors.TooMany) old new = AreRead texts × WritesForm 
 WritesSum form texts (Err errors.OutOfMemory) old new = new ≡ old
 
 -- the exit status: 2 for what is refused, 3 if memory runs out
-abbrev pub status_after : Result Outcome TextError → ℕ
-status_after (Ok how) = status_of how
-status_after (Err (errors.BadLine i line)) = 2
-status_after (Err errors.TooMany) = 2
-status_after (Err errors.OutOfMemory) = 3
+abbrev pub status_after_sum : Result Outcome TextError → ℕ
+status_after_sum (Ok how) = status_of how
+status_after_sum (Err (errors.BadLine i line)) = 2
+status_after_sum (Err errors.TooMany) = 2
+status_after_sum (Err errors.OutOfMemory) = 3

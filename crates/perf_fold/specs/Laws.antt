@@ -1,7 +1,7 @@
 -- Laws of texts that are added up.
 use Rattle.std.specs.Prelude.{◌≡◌, ℕ, List, ◌++◌}
 use Rattle.perf_flame.specs.Lines.{add_lines}
-use Rattle.perf_folded.specs.Sums.{sums_of_all}
+use Rattle.perf_fold.specs.Sums.{sums_of_all}
 
 abbrev pub OrderIsFree : Type 0
 OrderIsFree =

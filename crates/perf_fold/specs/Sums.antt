@@ -6,8 +6,8 @@ use Rattle.perf_flame.specs.FoldedLines.{folded_lines}
 use Rattle.perf_flame.specs.Lines.{Line, add_lines}
 use Rattle.perf_flame.specs.Reading.{reading, text_lines}
 use Rattle.perf_flame.specs.declared.folded.Folded.{Folded}
-use Rattle.perf_folded.specs.declared.error.TextError.{TextError}
-use Rattle.perf_folded.specs.declared.error.TextError.TheVariants as errors
+use Rattle.perf_fold.specs.declared.error.TextError.{TextError}
+use Rattle.perf_fold.specs.declared.error.TextError.TheVariants as errors
 
 -- the bytes of a text
 abbrev pub bytes_of : Vec ℕ → List ℕ

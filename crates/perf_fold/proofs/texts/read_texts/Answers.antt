@@ -3,9 +3,9 @@ use Rattle.std.specs.Prelude.{ℕ}
 use Rattle.std.proofs.lemmas.Result.{err_from_is_err_and}
 use Rattle.perf_flame.specs.FoldedLines.{folded_lines}
 use Rattle.perf_flame.specs.Lines.{add_lines}
-use Rattle.perf_folded.specs.Sums.{sums_of, refused_line, IsRefused}
-use Rattle.perf_folded.proofs.Adding.{more_read, more_sums, refused_sum}
-use Rattle.perf_folded.proofs.texts.read_texts.Goals as goal
+use Rattle.perf_fold.specs.Sums.{sums_of, refused_line, IsRefused}
+use Rattle.perf_fold.proofs.AddingTexts.{more_read, more_sums, refused_sum}
+use Rattle.perf_fold.proofs.texts.read_texts.Goals as goal
 
 pub returns-in_err-add_text : goal.returns-in_err-add_text
 returns-in_err-add_text c =

@@ -11,9 +11,9 @@ use Rattle.std.proofs.lemmas.Option.{slice_get-map, slice_get_read}
 use Rattle.perf_flame.specs.Lines.{Line, add_count, add_lines}
 use Rattle.perf_flame.specs.Reading.{line_in, reading, text_lines}
 use Rattle.perf_flame.proofs.Merging.{order_is_free, grouping_is_free}
-use Rattle.perf_folded.specs.Sums.{bytes_of, sums_of, refused_line, sums_of_all, AreRead, IsRefused, IsSumOf}
-use Rattle.perf_folded.specs.declared.error.TextError.{TextError}
-use Rattle.perf_folded.specs.declared.error.TextError.TheVariants as errors
+use Rattle.perf_fold.specs.Sums.{bytes_of, sums_of, refused_line, sums_of_all, AreRead, IsRefused, IsSumOf}
+use Rattle.perf_fold.specs.declared.error.TextError.{TextError}
+use Rattle.perf_fold.specs.declared.error.TextError.TheVariants as errors
 
 abbrev Outcome : Type 0
 Outcome = List Line × Option ℕ

@@ -1,7 +1,7 @@
 use Rattle.std.proofs.Common.{◌≡◌, map, take}
 use Rattle.perf_flame.specs.FoldedLines.{folded_lines}
-use Rattle.perf_folded.specs.Sums.{bytes_of, AreRead, sums_of_all}
-use Rattle.perf_folded.proofs.texts.read_texts.Given as goal
+use Rattle.perf_fold.specs.Sums.{bytes_of, AreRead, sums_of_all}
+use Rattle.perf_fold.proofs.texts.read_texts.Given as goal
 
 abbrev pub invariant-loop-index : goal.invariant-loop-index
 invariant-loop-index l = record {

@@ -3,8 +3,8 @@ use Rattle.std.specs.Prelude.{Err}
 use Rattle.perf_flame.specs.FoldedLines.{folded_lines}
 use Rattle.perf_flame.specs.Reading.{Reads}
 use Rattle.perf_flame.specs.declared.error.FoldedError.{FoldedError}
-use Rattle.perf_folded.proofs.Adding.{adds, refuses}
-use Rattle.perf_folded.proofs.texts.add_text.Goals as goal
+use Rattle.perf_fold.proofs.AddingTexts.{adds, refuses}
+use Rattle.perf_fold.proofs.texts.add_text.Goals as goal
 
 pub returns-in-Ok-clause-read : goal.returns-in-Ok-clause-read
 returns-in-Ok-clause-read c = refuses c.args.text.now (folded_lines c.args.folded.now) (folded_lines c.read_lines.new.folded) None c.in-Ok.ensures

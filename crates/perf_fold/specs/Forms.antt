@@ -4,10 +4,10 @@ use Rattle.std.specs.Global.{Vec}
 use Rattle.perf_flame.specs.Keys.{by_frames}
 use Rattle.perf_flame.specs.Lines.{Line, lines_text, total_of}
 use Rattle.perf_flame.specs.Svg.{flame_text}
-use Rattle.perf_folded.specs.declared.error.TextError.{TextError}
-use Rattle.perf_folded.specs.declared.error.TextError.TheVariants as errors
-use Rattle.perf_folded.specs.declared.form.Form.{Form}
-use Rattle.perf_folded.specs.declared.form.Form.TheVariants as form
+use Rattle.perf_fold.specs.declared.error.TextError.{TextError}
+use Rattle.perf_fold.specs.declared.error.TextError.TheVariants as errors
+use Rattle.perf_fold.specs.declared.form.Form.{Form}
+use Rattle.perf_fold.specs.declared.form.Form.TheVariants as form
 
 -- the flame graph of lines, which there is if the sum of all counts fits 64 bits
 abbrev pub IsGraph : (inverted : Bool) → List Line → List ℕ → Type 0

@@ -3,7 +3,7 @@
 ghost use Rattle.std.specs.Prelude.{◌≡◌, IfErr, OnOk, None, map};
 ghost use Rattle.perf_flame.specs.FoldedLines.{folded_lines};
 ghost use Rattle.perf_flame.specs.Lines.{add_lines};
-ghost use Rattle.perf_folded.specs.Sums as sums;
+ghost use Rattle.perf_fold.specs.Sums as sums;
 
 use crate::error::TextError;
 use perf_flame::error::FoldedError;

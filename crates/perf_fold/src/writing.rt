@@ -2,8 +2,8 @@
 
 ghost use Rattle.std.specs.Prelude.{◌≡◌, map};
 ghost use Rattle.perf_flame.specs.FoldedLines.{folded_lines};
-ghost use Rattle.perf_folded.specs.Sums.{bytes_of};
-ghost use Rattle.perf_folded.specs.Written as written;
+ghost use Rattle.perf_fold.specs.Sums.{bytes_of};
+ghost use Rattle.perf_fold.specs.WrittenForms as written;
 
 use crate::error::TextError;
 use crate::form::{Form, text_of};
@@ -56,8 +56,8 @@ fn write_text<W: Write>(writer: &mut W, text: &[u8]) -> Outcome
 
 /// The exit status after that: that of its outcome, 2 for a line or a graph that is refused, and 3 if
 /// memory ran out.
-pub fn status_after(ended: &Result<Outcome, TextError>) -> u8
-    ensures { result ≡ written.status_after ended.now }
+pub fn status_after_sum(ended: &Result<Outcome, TextError>) -> u8
+    ensures { result ≡ written.status_after_sum ended.now }
 {
     match ended {
         Ok(outcome) => outcome.status(),
