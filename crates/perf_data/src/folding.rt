@@ -4,10 +4,11 @@ use crate::ending::report;
 use crate::filters::{Chosen, refuse_times};
 use crate::{bytes_of, note_progress};
 use clap::ArgMatches;
-use perf_fold::{Choice, Weight, write_fold};
-use perf_folded::{Form, TextError, status_after, write_sum};
+use perf_flame::names::Frames;
+use perf_fold::{
+    Choice, Form, TextError, Weight, status_after, status_after_sum, write_fold, write_sum,
+};
 use perf_lines::outcome::Outcome;
-use perf_stacks::Frames;
 use perf_walk::Filter;
 use std::io;
 
@@ -65,7 +66,7 @@ fn print_fold(rt: &HostRuntime, words: &ArgMatches<'_>, form: Form) -> io::Resul
     let mut output = rt.stdout();
     let ended = write_fold(rt.alloc(), &bytes, how, form, &mut output);
     report(rt, path, &ended)?;
-    Ok(perf_fold::status_after(&ended))
+    Ok(status_after(&ended))
 }
 
 // Prints the sums of files in a form.
@@ -77,7 +78,7 @@ fn print_sum(rt: &HostRuntime, words: &ArgMatches<'_>, form: Form) -> io::Result
     let mut output = rt.stdout();
     let ended = write_sum(rt.alloc(), &texts, form, &mut output);
     report(rt, path_of(paths, &ended), &ended)?;
-    Ok(status_after(&ended))
+    Ok(status_after_sum(&ended))
 }
 
 // The bytes of files.

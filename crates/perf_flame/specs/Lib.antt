@@ -3,6 +3,9 @@ pub mod FoldedLines
 pub mod Tallies
 pub mod Stacks
 pub mod StackText
+pub mod Names
+pub mod Spots
+pub mod Grown
 pub mod Messages
 pub mod Reading
 pub mod Keys

@@ -2,8 +2,8 @@
 use Rattle.std.proofs.Common.{◌≡◌, ℕ, ◌+◌, ◌<◌, List, [], ◌∷◌, ◌++◌, length, take, get_or, sym, ◌∙◌, ap, append_assoc, append-nil}
 use Rattle.std.proofs.lemmas.Grind.{flat_map-append}
 use Rattle.std.proofs.lemmas.List.{take_more}
+use Rattle.perf_flame.specs.declared.names.Frames.{Frames}
 use Rattle.perf_history.specs.declared.changes.Change.{Change}
-use Rattle.perf_stacks.specs.declared.names.Frames.{Frames}
 use Rattle.perf_walk.specs.declared.calls.Call.{Call}
 use Rattle.perf_fold.specs.SampleStacks.{call_text, calls_text}
 

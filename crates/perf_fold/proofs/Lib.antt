@@ -5,4 +5,5 @@ pub mod Remembered
 pub mod Calling
 pub mod Found
 pub mod Adding
+pub mod AddingTexts
 pub mod Lined

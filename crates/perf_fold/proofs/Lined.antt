@@ -1,10 +1,6 @@
 -- The lines of the bytes of a file.
 use Rattle.std.proofs.Common.{◌≡◌, ℕ, ◌<◌, true, false, List, length, get_or, sym, ◌∙◌, ap, subst}
 use Rattle.std.specs.Prelude.{Option, Ok, Err}
-use Rattle.perf_folded.specs.Written.{WritesForm}
-use Rattle.perf_folded.specs.declared.error.TextError.{TextError}
-use Rattle.perf_folded.specs.declared.error.TextError.TheVariants as texts
-use Rattle.perf_folded.specs.declared.form.Form.{Form}
 use Rattle.perf_file.specs.Forms.{opened, event_name}
 use Rattle.perf_sections.specs.Names.{name_view}
 use Rattle.perf_sections.specs.Opened.{event_view}
@@ -15,8 +11,12 @@ use Rattle.perf_flame.specs.Lines.{Line}
 use Rattle.perf_fold.specs.EventLabels.{EventLabel, any_counts, own_labels}
 use Rattle.perf_fold.specs.Folds.{IsFoldOf}
 use Rattle.perf_fold.specs.Written.{AreLinesOf, LacksEvent, WritesFold, labels_in}
+use Rattle.perf_fold.specs.WrittenForms.{WritesForm}
 use Rattle.perf_fold.specs.declared.error.FoldError.TheVariants as errors
+use Rattle.perf_fold.specs.declared.error.TextError.{TextError}
+use Rattle.perf_fold.specs.declared.error.TextError.TheVariants as texts
 use Rattle.perf_fold.specs.declared.folding.Choice.{Choice}
+use Rattle.perf_fold.specs.declared.form.Form.{Form}
 use Rattle.perf_fold.proofs.LabelsAlike.{labelled_by}
 
 -- each event has the name that the file states

@@ -1,6 +1,9 @@
 -- The names of threads and frames depend on the bytes of byte strings alone.
 use Rattle.std.proofs.Common.{◌≡◌, ℕ, ◌++◌, refl, ap}
 use Rattle.std.specs.Prelude.{Option, Some, None, option_map}
+use Rattle.perf_flame.specs.Names.{thread_name, file_name, offset_text, place_name, mapped_name, frame_name}
+use Rattle.perf_flame.specs.declared.names.Frames.{Frames}
+use Rattle.perf_flame.specs.declared.names.Frames.TheVariants.{Offsets, Files}
 use Rattle.perf_history.specs.declared.changes.Mode.{Mode}
 use Rattle.perf_history.specs.declared.changes.Mode.TheVariants.{Kernel, User, Other}
 use Rattle.perf_history.specs.declared.names.Name.{Name}
@@ -8,9 +11,6 @@ use Rattle.perf_history.specs.declared.names.Name.TheVariants.{Given, Number, Sw
 use Rattle.perf_history.specs.declared.places.File.{File}
 use Rattle.perf_history.specs.declared.places.File.TheVariants.{Named, PerfMap, Symbol}
 use Rattle.perf_history.specs.declared.places.Place.{Place}
-use Rattle.perf_stacks.specs.Names.{thread_name, file_name, offset_text, place_name, mapped_name, frame_name}
-use Rattle.perf_stacks.specs.declared.names.Frames.{Frames}
-use Rattle.perf_stacks.specs.declared.names.Frames.TheVariants.{Offsets, Files}
 use Rattle.perf_walk.specs.Plain.{plain_name, plain_file, plain_place}
 
 pub thread_same : (n : Name) → thread_name n ≡ thread_name (plain_name n)

@@ -1,6 +1,8 @@
 -- The memory of a process in a walk.
 use Rattle.std.proofs.Common.{◌≡◌, ℕ, ◌<◌, ◌^◌, List, refl, ◌∙◌, ap}
 use Rattle.std.specs.Prelude.{Option, None, option_map}
+use Rattle.perf_flame.specs.Names.{frame_name}
+use Rattle.perf_flame.specs.declared.names.Frames.{Frames}
 use Rattle.perf_history.specs.Histories.{place_of}
 use Rattle.perf_history.specs.Memories.{IsMemory, place_at}
 use Rattle.perf_history.specs.Recorded.{IsHistory}
@@ -10,8 +12,6 @@ use Rattle.perf_history.specs.declared.changes.Mode.TheVariants.{Kernel, User, O
 use Rattle.perf_history.specs.declared.histories.History.{History}
 use Rattle.perf_history.specs.declared.memories.Memory.{Memory}
 use Rattle.perf_history.specs.declared.places.Place.{Place}
-use Rattle.perf_stacks.specs.Names.{frame_name}
-use Rattle.perf_stacks.specs.declared.names.Frames.{Frames}
 use Rattle.perf_walk.specs.Plain.{IsPast, plain_place}
 use Rattle.perf_walk.proofs.PlainNames.{place_plain}
 use Rattle.perf_fold.specs.Memories.{IsMemoryOf}

@@ -3,4 +3,8 @@ pub mod Memories
 pub mod SampleStacks
 pub mod Folds
 pub mod Messages
+pub mod Sums
+pub mod Forms
+pub mod Laws
+pub mod WrittenForms
 pub mod Written

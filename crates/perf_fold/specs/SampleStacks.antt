@@ -3,13 +3,13 @@ use Rattle.std.specs.Prelude.{ℕ, ◌==◌, List, [], ◌∷◌, ◌++◌, leng
 use Rattle.std.specs.List.{flat_map}
 use Rattle.perf_base.specs.Attribute.{or_zero}
 use Rattle.perf_flame.specs.Stacks.{clean, frame_text}
+use Rattle.perf_flame.specs.Names.{frame_name, thread_name}
+use Rattle.perf_flame.specs.declared.names.Frames.{Frames}
 use Rattle.perf_history.specs.Histories.{name_of, place_of}
 use Rattle.perf_history.specs.Modes.{mode_of}
 use Rattle.perf_history.specs.declared.changes.Change.{Change}
 use Rattle.perf_sample_types.specs.Sample.{SampleValue}
 use Rattle.perf_sample_types.specs.SampleGetters.{getters_of}
-use Rattle.perf_stacks.specs.Names.{frame_name, thread_name}
-use Rattle.perf_stacks.specs.declared.names.Frames.{Frames}
 use Rattle.perf_walk.specs.Calls.{call, calls_of}
 use Rattle.perf_walk.specs.declared.calls.Call.{Call}
 use Rattle.perf_walk.specs.declared.sampling.Sample.{Sample}

@@ -7,15 +7,15 @@ use Rattle.perf_file.specs.Forms.{opened, event_name}
 use Rattle.perf_sections.specs.Opened.{File}
 use Rattle.perf_sections.specs.Opens.{Fails}
 use Rattle.perf_sections.specs.declared.error.OpenError.TheVariants as opens
-use Rattle.perf_folded.specs.Written.{WritesForm}
-use Rattle.perf_folded.specs.declared.error.TextError.TheVariants as texts
-use Rattle.perf_folded.specs.declared.form.Form.{Form}
 use Rattle.perf_fold.specs.EventLabels.{EventLabel, any_counts, labels_by}
 use Rattle.perf_fold.specs.Folds.{IsFoldOf}
+use Rattle.perf_fold.specs.WrittenForms.{WritesForm}
 use Rattle.perf_fold.specs.declared.error.FoldError.{FoldError}
 use Rattle.perf_fold.specs.declared.error.FoldError.TheVariants as errors
+use Rattle.perf_fold.specs.declared.error.TextError.{TextError}
+use Rattle.perf_fold.specs.declared.error.TextError.TheVariants as texts
 use Rattle.perf_fold.specs.declared.folding.Choice.{Choice}
-use Rattle.perf_folded.specs.declared.error.TextError.{TextError}
+use Rattle.perf_fold.specs.declared.form.Form.{Form}
 
 -- the labels of the events of the bytes of a file, which contain that
 abbrev pub labels_in : Choice → (bytes : List ℕ) → File → List EventLabel

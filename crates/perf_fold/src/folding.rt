@@ -15,8 +15,9 @@ use crate::labels::{Label, counts_at, labels_of, period_at};
 use crate::stack::{put_calls, put_stack};
 use perf_file::{Entry, Recording};
 use perf_flame::folded::Folded;
+use perf_flame::names::Frames;
+use perf_flame::stacks::Stacks;
 use perf_flame::tally::Tally;
-use perf_stacks::{Frames, Stacks};
 use perf_walk::{Call, Filter, Found, Sample, Walk, sample_in};
 use std::alloc::{AllocError, Global};
 

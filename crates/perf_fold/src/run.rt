@@ -3,11 +3,12 @@
 ghost use Rattle.std.specs.Prelude.{◌≡◌};
 ghost use Rattle.perf_fold.specs.Written as written;
 
-use crate::error::FoldError;
+use crate::error::{FoldError, TextError};
 use crate::folding::{Choice, fold_labelled};
+use crate::form::Form;
 use crate::labels::{any_counts, labels_of};
+use crate::writing::write_folded;
 use perf_file::{OpenError, Recording};
-use perf_folded::{Form, TextError, write_folded};
 use perf_lines::outcome::Outcome;
 use std::alloc::Global;
 use std::io::Write;

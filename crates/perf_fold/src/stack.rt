@@ -4,12 +4,12 @@ ghost use Rattle.std.specs.Prelude.{◌≡◌, ◌++◌, ℕ, List, OnOk, Some, 
 ghost use Rattle.perf_base.specs.Dynamic.{order_of};
 ghost use Rattle.perf_file.specs.Views.{view};
 ghost use Rattle.perf_flame.specs.Stacks.{clean};
+ghost use Rattle.perf_flame.specs.Grown.{text_of};
+ghost use Rattle.perf_flame.specs.Names.{frame_name, thread_name};
+ghost use Rattle.perf_flame.specs.declared.names.Frames as named;
 ghost use Rattle.perf_history.specs.Histories.{name_of, place_of};
 ghost use Rattle.perf_history.specs.declared.changes.Change.{Change};
 ghost use Rattle.perf_sample_types.specs.Sample.{SampleValue};
-ghost use Rattle.perf_stacks.specs.Grown.{text_of};
-ghost use Rattle.perf_stacks.specs.Names.{frame_name, thread_name};
-ghost use Rattle.perf_stacks.specs.declared.names.Frames as named;
 ghost use Rattle.perf_walk.specs.Plain.{IsPast};
 ghost use Rattle.perf_walk.specs.Calls.{calls_of};
 ghost use Rattle.perf_walk.specs.Moments.{Moment};
@@ -20,8 +20,9 @@ ghost use Rattle.perf_fold.specs.Memories.{IsMemoryOf};
 ghost use Rattle.perf_fold.specs.SampleStacks as stack;
 
 use crate::labels::{Label, name_at};
+use perf_flame::names::Frames;
+use perf_flame::stacks::Stacks;
 use perf_history::{Memory, Mode, Place};
-use perf_stacks::{Frames, Stacks};
 use perf_walk::{Call, Found, Sample, Walk, push_calls};
 use std::alloc::AllocError;
 

@@ -1,8 +1,9 @@
 //! What the frames of a sample are named.
 
 use crate::tests::checks::check_bytes;
+use perf_flame::names::Frames;
+use perf_flame::stacks::Stacks;
 use perf_history::{File, Identity, Mode, Name, Place};
-use perf_stacks::{Frames, Stacks};
 use std::alloc::AllocError;
 use std::process::Abort;
 

@@ -1,6 +1,6 @@
 use Rattle.std.proofs.Common.{◌≡◌, ◌++◌, OnOk, List, ℕ, subst}
 use Rattle.perf_flame.specs.Stacks.{frame_text}
-use Rattle.perf_stacks.specs.Grown.{text_of}
+use Rattle.perf_flame.specs.Grown.{text_of}
 use Rattle.perf_fold.proofs.stack.push_call.Goals as goal
 
 pub returns : goal.returns

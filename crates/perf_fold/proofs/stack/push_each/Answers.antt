@@ -1,6 +1,6 @@
 use Rattle.std.proofs.Common.{◌<◌, ◌≤◌, ◌++◌, ℕ, List, length, reverse, ap, sym, ◌∙◌, arith}
 use Rattle.std.proofs.lemmas.List.{get_or-reverse, length-reverse, take_all}
-use Rattle.perf_stacks.specs.Grown.{text_of}
+use Rattle.perf_flame.specs.Grown.{text_of}
 use Rattle.perf_walk.specs.declared.calls.Call.{Call}
 use Rattle.perf_fold.specs.SampleStacks.{call_text, calls_text}
 use Rattle.perf_fold.proofs.Calling.{call_more}

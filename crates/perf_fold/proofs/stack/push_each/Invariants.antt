@@ -1,5 +1,5 @@
 use Rattle.std.proofs.Common.{◌≡◌, ◌++◌, ℕ, take, reverse}
-use Rattle.perf_stacks.specs.Grown.{text_of}
+use Rattle.perf_flame.specs.Grown.{text_of}
 use Rattle.perf_history.specs.declared.changes.Change.{Change}
 use Rattle.std.specs.Prelude.{List}
 use Rattle.perf_fold.specs.Memories.{IsMemoryOf}

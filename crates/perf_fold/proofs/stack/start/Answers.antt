@@ -1,7 +1,7 @@
 use Rattle.std.proofs.Common.{◌≡◌, OnOk, List, ℕ, map, ap, ◌∙◌, subst}
 use Rattle.perf_flame.specs.Stacks.{clean}
-use Rattle.perf_stacks.specs.Grown.{text_of}
-use Rattle.perf_stacks.specs.Names.{thread_name}
+use Rattle.perf_flame.specs.Grown.{text_of}
+use Rattle.perf_flame.specs.Names.{thread_name}
 use Rattle.perf_fold.proofs.PlainTexts.{thread_same}
 use Rattle.perf_fold.proofs.stack.start.Goals as goal
 

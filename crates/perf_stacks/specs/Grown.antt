@@ -1,8 +1,0 @@
--- The text of a stack that grows.
-use Rattle.std.specs.Prelude.{ℕ, List}
-use Rattle.perf_flame.specs.StackText.{stack_text}
-use Rattle.perf_stacks.specs.declared.stacks.Stacks.{Stacks}
-
--- the text so far
-abbrev pub text_of : Stacks → List ℕ
-text_of s = stack_text s.stack

@@ -1,3 +1,0 @@
-pub mod Names
-pub mod Spots
-pub mod Grown
