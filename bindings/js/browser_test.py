@@ -23,6 +23,8 @@ from browser import BROWSERS  # noqa: E402
 
 TOP = Path(__file__).resolve().parents[2]
 POLICY = "default-src 'none'; script-src 'self' 'unsafe-inline' 'wasm-unsafe-eval'; connect-src 'self'"
+# The bits of a module's memory, and the page's query for that module.
+MODULES = {32: "", 64: "?wide"}
 PAGE = """<!doctype html>
 <meta charset="utf-8">
 <pre>nothing</pre>
@@ -78,15 +80,21 @@ class Files(SimpleHTTPRequestHandler):
         pass
 
 
-def text_of_page(kind, port, query):
-    """The text of the page in a kind of browser."""
+def text_of_page(browser, port, query):
+    """The text of the page in a browser."""
+    try:
+        browser.go(f"http://127.0.0.1:{port}/{query}")
+        return browser.wait("const text = document.querySelector('pre').textContent; return text !== 'nothing' && text")
+    except AssertionError as error:
+        return str(error)
+
+
+def texts_of_pages(kind, port):
+    """The text of the page by each module, in a kind of browser."""
     with tempfile.TemporaryDirectory() as room:
         browser = kind(room)
         try:
-            browser.go(f"http://127.0.0.1:{port}/{query}")
-            return browser.wait("const text = document.querySelector('pre').textContent; return text !== 'nothing' && text")
-        except AssertionError as error:
-            return str(error)
+            return {bits: text_of_page(browser, port, query) for bits, query in MODULES.items()}
         finally:
             browser.close()
 
@@ -109,8 +117,8 @@ def main(folder):
         if kind.missing():
             print(f"skipped: in {kind.NAME}: no {kind.missing()}")
             continue
-        for bits, query in (32, ""), (64, "?wide"):
-            found = text_of_page(kind, server.server_address[1], query).splitlines()
+        for bits, text in texts_of_pages(kind, server.server_address[1]).items():
+            found = text.splitlines()
             if names and counts and found == names + counts:
                 print(f"passed: in {kind.NAME}, memory of {bits} bits: {len(names)} names, {len(counts)} counts of samples")
             else:

@@ -507,7 +507,7 @@ function measure() {
     for (const order of ["file", "time"]) {
         const frames = recording.frames(order);
         const { count } = frames;
-        const column = microseconds(count, () => frames.column("time"));
+        const column = microseconds(count, () => frames.column("time"), MOST);
         const text = `in order of ${order}, ${column.toFixed(3)} microseconds a frame for a column of times`;
         check(`events.data, 300 times: ${text}, at most ${MOST}`, column <= MOST);
         const loop = microseconds(count, () => {

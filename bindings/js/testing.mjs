@@ -218,10 +218,11 @@ export function isInside(frame, value) {
 
 export const MOST = 1;
 
-/** The least time of the processor for a frame, in microseconds, of many runs: on a busy machine most are slower. */
-export function microseconds(count, call) {
+/** The least time of the processor for a frame, in microseconds, of ten runs, and of more, up to 60, while it is above a
+ * limit: on a busy machine most are slower. */
+export function microseconds(count, call, most = Infinity) {
     let least = Infinity;
-    for (let i = 0; i < 60; i++) {
+    for (let run = 0; run < 10 || run < 60 && least > most * count; run++) {
         const before = process.cpuUsage();
         call();
         const { user, system } = process.cpuUsage(before);
@@ -229,7 +230,6 @@ export function microseconds(count, call) {
     }
     return least / count;
 }
-
 
 /** The bytes that a call takes in memory besides what was there before. */
 export async function bytesTaken(call) {
