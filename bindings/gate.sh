@@ -4,19 +4,17 @@
 # Without ARCHIVE it makes one by each of the kit's two compilers over the libraries that `rt ci` proved,
 # of which the second is for C and C++ alone, and one for arm64 and one for WebAssembly, if their tools are
 # here. A line says of each test whether it passed, failed or was skipped, and its seconds of processor time; what a
-# test skipped, or what of it failed and the end of what it printed, follows it, indented. As many tests run at once as
-# there are processors, at most four; that of the page, which has limits of time, runs alone at the end. The status is 0
-# if none failed. No network is needed, and nothing is left in the repository.
+# test skipped, or what of it failed and the end of what it printed, follows it, indented. The status is 0 if none
+# failed. No network is needed, and nothing is left in the repository.
 set -u
 top=$(cd "$(dirname "$0")/.." && pwd)
 cd "$top" || exit 2
 work=$(mktemp -d) || exit 2
 trap 'rm -rf "$work"' EXIT
-trap 'kill $(cat "$work"/*/job "$work"/*/test) 2>/dev/null; exit 1' INT TERM
+trap 'exit 1' INT TERM
 status=0
-# Leaks cannot be looked for where no process may be traced. What Cargo builds is built once, and no debugger sees it.
-export CARGO_NET_OFFLINE=true CARGO_INCREMENTAL=0 CARGO_PROFILE_DEV_DEBUG=0
-export PYTHONDONTWRITEBYTECODE=1 ASAN_OPTIONS=detect_leaks=0 LINTS=no
+# Leaks cannot be looked for where no process may be traced.
+export CARGO_NET_OFFLINE=true PYTHONDONTWRITEBYTECODE=1 ASAN_OPTIONS=detect_leaks=0 LINTS=no
 
 # The first of these tools that is absent, if one is.
 absent() {
@@ -28,61 +26,13 @@ absent() {
     done
 }
 
-# ---- jobs, each a process of its own that runs tests one after another
-
-started=0 running=0
-most=$(nproc)
-[ "$most" -le 4 ] || most=4
-# A job that ends writes its number and its status there.
-mkfifo "$work/ends" && exec 3<>"$work/ends" || exit 2
-
-# Starts a job, once there is a processor for it: beside FUNCTION WORD..
-beside() {
-    [ $running -lt "$most" ] || await
-    started=$((started + 1)) running=$((running + 1))
-    room=$work/$started
-    mkdir "$room" || exit 2
-    (
-        trap 'echo "$started $?" >&3' EXIT
-        "$@"
-        exit $status
-    ) >"$room/told" 2>&1 &
-    echo $! >"$room/job"
-}
-
-# Waits until a job ends, and prints what it printed.
-await() {
-    read -r ended failed <&3
-    running=$((running - 1))
-    cat "$work/$ended/told"
-    rm -r "${work:?}/$ended"
-    [ "$failed" = 0 ] || status=1
-}
-
-# Waits until all have ended. Only then the time that they took counts as that of this process.
-await_all() {
-    while [ $running -gt 0 ]; do
-        await
-    done
-    wait
-}
-
-# ---- tests, in a job
-
 # Sets `took` to the seconds of processor time since it was last called.
 spent=0
 count_time() {
     # (the second line is the time of all children, as 1m2.3s 0m4.5s)
-    times >"$room/times"
-    took=$(awk -F '[ms ]+' -v before=$spent 'NR == 2 { print int(60 * $1 + $2 + 60 * $3 + $4) - before }' "$room/times")
+    times >"$work/times"
+    took=$(awk -F '[ms ]+' -v before=$spent 'NR == 2 { print int(60 * $1 + $2 + 60 * $3 + $4) - before }' "$work/times")
     spent=$((spent + took))
-}
-
-# Runs a command for so many seconds at most: limited SECONDS COMMAND WORD..
-limited() {
-    timeout "$@" >"$room/log" 2>&1 </dev/null 3>&- &
-    echo $! >"$room/test"
-    wait $!
 }
 
 # A test, for which tools are needed: face NAME TOOLS COMMAND WORD..
@@ -93,38 +43,16 @@ face() {
     missing=$(absent $tools)
     if [ -n "$missing" ]; then
         echo "skipped: $name: no $missing"
-    elif limited 900 "$@"; then
+    elif timeout 900 "$@" >"$work/log" 2>&1 </dev/null; then
         count_time
         echo "passed: $name ($took seconds)"
-        grep '^skipped' "$room/log" | sed 's/^/    /'
+        grep '^skipped' "$work/log" | sed 's/^/    /'
     else
         count_time
         echo "FAILED: $name ($took seconds)"
-        grep '^FAILED' "$room/log" | sed 's/^/    /'
-        tail -n 20 "$room/log" | sed 's/^/    | /'
+        grep '^FAILED' "$work/log" | sed 's/^/    /'
+        tail -n 20 "$work/log" | sed 's/^/    | /'
         status=1
-    fi
-}
-
-make_archives() {
-    if [ -n "$(absent python3)" ]; then
-        echo "skipped: the faces: no python3"
-    elif limited 3600 python3 bindings/gate_archive.py "$work" x86_64-unknown-linux-gnu $targets; then
-        cat "$room/log"
-        count_time
-        echo "archives: $took seconds of processor time"
-    else
-        echo "skipped: the faces: $(head -n 1 "$room/log")"
-        tail -n +2 "$room/log"
-    fi
-}
-
-# C and C++ over both archives. The proved programs are tested by the first alone, if it runs.
-c_faces() {
-    face "C and C++" "cc c++ make nm" env OBJECTS="$work/objects" bindings/test.sh "$archive" crates
-    if [ -f "$second" ]; then
-        face "C and C++, over the archive of the kit's second compiler" "cc c++ make nm" \
-            env OBJECTS="$work/objects" TESTED="$tested" bindings/test.sh "$second" crates
     fi
 }
 
@@ -136,28 +64,22 @@ python_with_numpy() {
     command -v "$python" || echo python3
 }
 
-# The shared object of the archive, for Python, and for JavaScript to be compared with Python. Sets `is_made` to a status.
-make_shared() {
-    make -s -C bindings shared OUT="$work/out" ARCHIVE="$archive" >"$work/shared" 2>&1
-    is_made=$?
-    shared=$(find "$work/out/shared" -name 'libperf_event_data.so.*' 2>/dev/null)
-}
-
 python_face() {
+    if ! make -s -C bindings shared OUT="$work/out" ARCHIVE="$archive" >"$work/log" 2>&1; then
+        echo "FAILED: Python: no shared object"
+        tail -n 20 "$work/log" | sed 's/^/    | /'
+        status=1
+        return
+    fi
+    shared=$(find "$work/out/shared" -name 'libperf_event_data.so.*' 2>/dev/null)
+    if [ -z "$shared" ]; then
+        echo "skipped: Python: $(tail -n 1 "$work/log")"
+        return
+    fi
     perfrec=crates/perfrec/out/perfrec
     [ -x $perfrec ] || perfrec=
-    if [ -n "$(absent cc make python3)" ]; then
-        echo "skipped: Python: no $(absent cc make python3)"
-    elif [ $is_made != 0 ]; then
-        echo "FAILED: Python: no shared object"
-        tail -n 20 "$work/shared" | sed 's/^/    | /'
-        status=1
-    elif [ -z "$shared" ]; then
-        echo "skipped: Python: $(tail -n 1 "$work/shared")"
-    else
-        face "Python" "python3" env PERF_EVENT_DATA_SO="$shared" \
-            "$(python_with_numpy)" bindings/python/test.py $perfrec
-    fi
+    face "Python" "python3" env PERF_EVENT_DATA_SO="$shared" \
+        "$(python_with_numpy)" bindings/python/test.py $perfrec
 }
 
 # C and the package for arm64, whose programs run under qemu.
@@ -179,7 +101,7 @@ js_face() {
     if [ -z "$(absent $js_tools)" ] && [ ! -f "$work/$wasm/libperf_event_c.a" ]; then
         echo "skipped: JavaScript: no archive for $wasm"
     else
-        face "JavaScript" "$js_tools" env PERF_EVENT_DATA_SO="$shared" MODULES="$work/modules" \
+        face "JavaScript" "$js_tools" env PERF_EVENT_DATA_SO="${shared:-}" MODULES="$work/modules" \
             bindings/js/test.sh "$work/$wasm/libperf_event_c.a" "$perfrec"
     fi
 }
@@ -196,8 +118,20 @@ web_face() {
     fi
 }
 
-# ---- all of them: first the archives, and beside them what needs none
-
+replay=crates/perf_replay/out/perf_replay
+if [ -x $replay ]; then
+    face "lying counts and sizes, in 128 MiB" "python3 timeout" bindings/lies_test.sh $replay
+else
+    echo "skipped: lying counts and sizes: no proved perf_replay"
+fi
+shows=crates/perf_data/out/perf_data
+if [ -x $shows ]; then
+    face "words of perf_data, and damaged files" "dd" bindings/file_words_test.sh $shows
+    face "folding by workers of Dask" "timeout" bindings/fleet_test.sh $shows
+    face "mappings of forks of forks" "python3 awk cmp" bindings/forks_test.sh $shows
+else
+    echo "skipped: words of perf_data: no proved perf_data"
+fi
 # The machines besides this one for which all tools are here.
 arm=aarch64-unknown-linux-gnu
 arm_tools="aarch64-linux-gnu-gcc aarch64-linux-gnu-nm qemu-aarch64-static cc make nm"
@@ -209,53 +143,42 @@ js_tools="node npm wasm-opt make tar python3"
 mkdir "$work/llvm" || exit 2
 archive=$work/llvm/libperf_event_c.a
 second=$work/rattle/libperf_event_c.a
-making=
 if [ $# -gt 0 ]; then
     cp "$1" "$archive" || exit 2
+elif [ -n "$(absent python3)" ]; then
+    echo "skipped: the faces: no python3"
+    exit $status
+elif python3 bindings/gate_archive.py "$work" x86_64-unknown-linux-gnu $targets >"$work/log" 2>&1 </dev/null; then
+    cat "$work/log"
+    count_time
+    echo "archives: $took seconds of processor time"
 else
-    beside make_archives
-    making=$room
-fi
-
-replay=crates/perf_replay/out/perf_replay
-if [ -x $replay ]; then
-    beside face "lying counts and sizes, in 128 MiB" "python3 timeout" bindings/lies_test.sh $replay
-else
-    echo "skipped: lying counts and sizes: no proved perf_replay"
-fi
-shows=crates/perf_data/out/perf_data
-if [ -x $shows ]; then
-    beside face "words of perf_data, and damaged files" "dd" bindings/file_words_test.sh $shows
-    beside face "folding by workers of Dask" "timeout" bindings/fleet_test.sh $shows
-    beside face "mappings of forks of forks" "python3 awk cmp" bindings/forks_test.sh $shows
-else
-    echo "skipped: words of perf_data: no proved perf_data"
-fi
-beside face "names of functions in folded stacks" "awk sed" bindings/stacks_test.sh
-
-# (a job that has ended leaves nothing there)
-while [ -d "$making" ]; do
-    await
-done
-if [ ! -f "$archive" ]; then
-    await_all
+    echo "skipped: the faces: $(head -n 1 "$work/log")"
+    tail -n +2 "$work/log"
     exit $status
 fi
+face "names of functions in folded stacks" "awk sed" bindings/stacks_test.sh
+# The proved programs are tested by the first alone of the tests of C, if it runs.
 tested=$([ -n "$(absent cc c++ make nm)" ] || echo yes)
-make_shared
-beside js_face
-beside c_faces
-beside python_face
-beside arm_faces
-beside face "Rust" "cc cargo" bindings/rust/test.sh "$work/llvm"
-beside face "packages" "cc c++ make nm pkg-config tar gzip python3" bindings/install_test.sh "$archive"
-beside face "package for Cargo" "cc make cargo git" bindings/packages_test.sh crate "$archive"
-beside face "packages for Debian" "cc make dh dh_python3 dpkg lintian pkg-config python3" \
+face "C and C++" "cc c++ make nm" env OBJECTS="$work/objects" bindings/test.sh "$archive" crates
+if [ -f "$second" ]; then
+    face "C and C++, over the archive of the kit's second compiler" "cc c++ make nm" \
+        env OBJECTS="$work/objects" TESTED="$tested" bindings/test.sh "$second" crates
+fi
+face "Rust" "cc cargo" bindings/rust/test.sh "$work/llvm"
+if [ -z "$(absent cc make python3)" ]; then
+    python_face
+else
+    echo "skipped: Python: no $(absent cc make python3)"
+fi
+arm_faces
+js_face
+web_face
+face "packages" "cc c++ make nm pkg-config tar gzip python3" bindings/install_test.sh "$archive"
+face "wheel" "cc make readelf python3" bindings/packages_test.sh wheel "$archive"
+face "package for Cargo" "cc make cargo git" bindings/packages_test.sh crate "$archive"
+face "package for CMake" "cc c++ make cmake" bindings/packages_test.sh cmake "$archive"
+face "packages for Debian" "cc make dh dh_python3 dpkg lintian pkg-config python3" \
     bindings/packages_test.sh deb "$archive"
-beside face "wheel" "cc make readelf python3" bindings/packages_test.sh wheel "$archive"
-beside face "package for CMake" "cc c++ make cmake" bindings/packages_test.sh cmake "$archive"
-beside face "manual pages and completion" "make python3 bash groff" bindings/packages_test.sh programs "$archive"
-await_all
-beside web_face
-await_all
+face "manual pages and completion" "make python3 bash groff" bindings/packages_test.sh programs "$archive"
 exit $status
