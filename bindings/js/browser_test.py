@@ -67,7 +67,7 @@ class Files(SimpleHTTPRequestHandler):
         return super().translate_path(path)
 
     def do_GET(self):
-        if self.path not in ("/", "/?wide"):
+        if self.path.removeprefix("/") not in MODULES.values():
             super().do_GET()
             return
         self.send_response(200)
